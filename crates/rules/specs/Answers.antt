@@ -1,0 +1,90 @@
+-- Document 01, "Orders": what each call answers, and what it leaves in lent memory or hands back.
+use Prim.Native.Nat.{ℕ}
+use mathlib.Core.Option.{Option}
+use mathlib.Core.List.{List, [], _∷_}
+use lib.IntN.{ℤ}
+use Rattle.rules.specs.Word.{codeword, spread, gather}
+use Rattle.rules.specs.Level.{idealLevels, levelCost, wordDistance, leastWord}
+use Rattle.rules.specs.Guard.{guardOf}
+use Rattle.rules.specs.Walk.{walkVisits}
+use Rattle.rules.specs.Assembling.{Assembler, Reading, start, takeReading, givenOut}
+use Rattle.rules.specs.Refusals.{Refusal, Answer, answer, left, wrongSize, wrongAssembler, wrongLength, wrongMask, wrongFolding, wideFolding, outOfRange, noCandidate, smallAllowance, wrongMessage, noRoom, notFinite, notFull}
+
+-- "Success of encode carries d and x"
+pub record Encoded : Type 0 where
+  pub d : ℕ
+  pub x : ℕ
+
+-- the information word and the codeword of a message
+abbrev pub encoded : ℕ → ℕ → ℕ → Encoded
+encoded n mask message = record { d = spread n mask message; x = codeword n (spread n mask message) }
+
+-- "Encode: 1, 3, 9."
+unfoldable pub encodeAnswer : ℕ → ℕ → ℕ → Answer Encoded
+encodeAnswer n mask message =
+    answer (wrongSize n ∷ wrongMask n mask ∷ wrongMessage n mask message ∷ []) (encoded n mask message)
+
+-- "Encode to ideal levels in a lent slice: 1, 2, 3, 9."
+unfoldable pub encodeLevelsAnswer : ℕ → List ℤ → ℕ → ℕ → Answer Encoded
+encodeLevelsAnswer n slice mask message =
+    answer (wrongSize n ∷ wrongLength n slice ∷ wrongMask n mask ∷ wrongMessage n mask message ∷ [])
+    (encoded n mask message)
+
+-- "encoding to levels carries the same and writes all N ideal levels": the slice afterwards
+unfoldable pub encodeLevelsLeft : ℕ → List ℤ → ℕ → ℕ → List ℤ
+encodeLevelsLeft n slice mask message =
+    left (encodeLevelsAnswer n slice mask message) slice (idealLevels n (encoded n mask message .x))
+
+-- "Guard: 1, 3."
+unfoldable pub guardAnswer : ℕ → ℕ → Answer (Option ℕ)
+guardAnswer n mask = answer (wrongSize n ∷ wrongMask n mask ∷ []) (guardOf n mask)
+
+-- "New assembler: 1."; room is how many levels an assembler has room for
+unfoldable pub newAnswer : ℕ → ℕ → Answer Assembler
+newAnswer room n = answer (wrongSize n ∷ []) (start room n)
+
+-- "Taking a reading: 1, 10, 11."
+unfoldable pub takeAnswer : Assembler → Reading → Answer (Unit {0})
+takeAnswer a reading = answer (wrongAssembler a ∷ noRoom a reading ∷ notFinite reading ∷ []) tt
+
+-- the assembler that is handed back
+unfoldable pub takeLeft : Assembler → Reading → Assembler
+takeLeft a reading = left (takeAnswer a reading) a (takeReading a reading)
+
+-- "Giving out levels to a lent slice: 1, 14, 2."
+unfoldable pub giveAnswer : Assembler → List ℤ → Answer (Unit {0})
+giveAnswer a slice = answer (wrongAssembler a ∷ notFull a ∷ wrongLength (a .n) slice ∷ []) tt
+
+-- the slice afterwards
+unfoldable pub giveLeft : Assembler → List ℤ → List ℤ
+giveLeft a slice = left (giveAnswer a slice) slice (givenOut a)
+
+-- "Success of decode carries message, d, x, distance and visits"
+pub record Decoded : Type 0 where
+  pub message : ℕ
+  pub d : ℕ
+  pub x : ℕ
+  pub distance : ℕ
+  pub visits : ℕ
+
+-- a finished decoding whose word is d
+abbrev pub decodedAs : ℕ → ℕ → (ℕ → ℕ → ℕ) → ℕ → ℕ → Decoded
+decodedAs n mask cost visits d =
+    record { message = gather n mask d; d = d; x = codeword n d; distance = wordDistance n cost d; visits = visits }
+
+-- a finished decoding: the least word, and the visits of the walk
+unfoldable pub decoded : ℕ → List ℤ → ℕ → ℕ → Decoded
+decoded n levels mask folding =
+    decodedAs n mask (levelCost levels) (walkVisits n mask (levelCost levels) folding) (leastWord n mask (levelCost levels))
+
+-- 3 to 8, the part of the order that decoding and a record share but for the levels' place in it
+unfoldable pub treeOrder : ℕ → List ℤ → ℕ → ℕ → ℕ → List (Option Refusal)
+treeOrder n levels mask folding allowance =
+    wrongMask n mask ∷ wrongFolding n folding ∷ wideFolding folding ∷ outOfRange n levels ∷ noCandidate n mask folding
+    ∷ smallAllowance allowance (walkVisits n mask (levelCost levels) folding) ∷ []
+
+-- "Decode: 1 to 6, then 7, 8."
+unfoldable pub decodeAnswer : ℕ → List ℤ → ℕ → ℕ → ℕ → Answer Decoded
+decodeAnswer n levels mask folding allowance =
+    answer (wrongSize n ∷ wrongLength n levels ∷ treeOrder n levels mask folding allowance)
+    (decoded n levels mask folding)

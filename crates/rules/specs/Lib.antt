@@ -1,0 +1,13 @@
+pub mod Below
+pub mod Word
+pub mod Level
+pub mod Guard
+pub mod Sample
+pub mod Folding
+pub mod Walk
+pub mod Assembling
+pub mod Refusals
+pub mod Answers
+pub mod Record
+pub mod Text
+pub mod Rows

@@ -1,0 +1,77 @@
+-- Document 01, "Recorded blocks": the line of an answer, and the text of all the bytes of a file. Text is a list of bytes.
+use Prim.Native.Nat.{ℕ, zero, suc, _+_, _-_, _*_, _/_, _%_}
+use mathlib.Core.Bool.{Bool, cond}
+use mathlib.Core.List.{List, [], _∷_, _++_}
+use lib.Dec.{ltb}
+use lib.ListN.{length, take, drop}
+use Rattle.rules.specs.Below.{choose}
+use Rattle.rules.specs.Refusals.{Refusal, Answer, refused, done}
+use Rattle.rules.specs.Answers.{Decoded}
+use Rattle.rules.specs.Record.{recordBytes, recordAnswer}
+
+-- a digit's byte, "lower-case" above 9
+abbrev pub digit : ℕ → ℕ
+digit v = cond (ltb v 10) (48 + v) (87 + v)
+
+-- the decimal digits of v, highest first, of which there are at most `most`
+unfoldable pub decimalUpTo : ℕ → ℕ → List ℕ
+decimalUpTo zero v = []
+decimalUpTo (suc most) v =
+    choose (ltb v 10) (λ _. digit v ∷ []) (λ _. decimalUpTo most (v / 10) ++ (digit (v % 10) ∷ []))
+
+-- a number in decimal
+abbrev pub decimal : ℕ → List ℕ
+decimal v = decimalUpTo (suc v) v
+
+-- the lowest `count` hexadecimal digits of v, highest first
+unfoldable pub hex : ℕ → ℕ → List ℕ
+hex zero v = []
+hex (suc count) v = hex count (v / 16) ++ (digit (v % 16) ∷ [])
+
+-- a space, and the end of a line
+abbrev pub space : List ℕ
+space = 32 ∷ []
+
+abbrev pub lineEnd : List ℕ
+lineEnd = 10 ∷ []
+
+-- `found`
+abbrev pub foundWord : List ℕ
+foundWord = 102 ∷ 111 ∷ 117 ∷ 110 ∷ 100 ∷ []
+
+-- `refused`
+abbrev pub refusedWord : List ℕ
+refusedWord = 114 ∷ 101 ∷ 102 ∷ 117 ∷ 115 ∷ 101 ∷ 100 ∷ []
+
+-- "then `found`, message as 16 lower-case hex digits, distance, visits; or `refused` and the number"
+abbrev pub answerText : Answer Decoded → List ℕ
+answerText (done a) =
+    foundWord ++ space ++ hex 16 (a .message) ++ space ++ decimal (a .distance) ++ space ++ decimal (a .visits)
+answerText (refused r) = refusedWord ++ space ++ decimal (r .number)
+
+-- "prints a line each: record number from 0; then" the answer
+unfoldable pub line : ℕ → Answer Decoded → List ℕ
+line number a = decimal number ++ space ++ answerText a ++ lineEnd
+
+-- the records that bytes hold, of which there are at most `most`; the last one may be short
+unfoldable pub recordsUpTo : ℕ → List ℕ → List (List ℕ)
+recordsUpTo zero bytes = []
+recordsUpTo (suc most) [] = []
+recordsUpTo (suc most) (b ∷ bs) = take recordBytes (b ∷ bs) ∷ recordsUpTo most (drop recordBytes (b ∷ bs))
+
+-- the lines of records, the first of them numbered `number`
+unfoldable pub linesFrom : ℕ → List (List ℕ) → List ℕ
+linesFrom number [] = []
+linesFrom number (r ∷ rs) = line number (recordAnswer r) ++ linesFrom (suc number) rs
+
+-- "No program of ours reads more than 4,294,967,295 records; it stops there."
+abbrev pub mostRecords : ℕ
+mostRecords = 4294967295
+
+-- the text of bytes whose first record is numbered `number`: "A short last record gets its line; empty input prints nothing."
+unfoldable pub textFrom : ℕ → List ℕ → List ℕ
+textFrom number bytes = linesFrom number (recordsUpTo (mostRecords - number) bytes)
+
+-- what `blocks` prints for the bytes of its standard input
+abbrev pub text : List ℕ → List ℕ
+text bytes = textFrom 0 bytes
