@@ -1,0 +1,26 @@
+-- How contracts read a word, and what a word has room for. A later request makes a word four 64-bit words: then these change.
+use Prim.Native.Nat.{ℕ, _^_, min}
+use lib.Bits.{bitOr}
+use lib.Dec.{ltb}
+use mathlib.Core.Bool.{cond}
+use mathlib.Core.Option.{Option, none, some}
+use Rattle.rules.specs.Refusals.{largest}
+use Rattle.word.specs.declared.count.Fewest.{Fewest}
+use Rattle.word.specs.declared.count.Fewest.the-variants.{Ones, NoIndex}
+
+-- the number that a word stands for
+abbrev pub wordOf : ℕ → ℕ
+wordOf w = w
+
+-- an n above the largest counts as the largest, so that a function of an n has an answer for every n
+abbrev pub sizeOf : ℕ → ℕ
+sizeOf n = min n largest
+
+-- a word with a one put at index i; an index past the word changes nothing
+abbrev pub withOne : ℕ → ℕ → ℕ
+withOne w i = cond (ltb i (2 ^ largest)) (bitOr w (2 ^ i)) w
+
+-- the fewest ones, or that no index is unfrozen
+abbrev pub fewestOf : Fewest → Option ℕ
+fewestOf (Ones w) = some w
+fewestOf NoIndex = none

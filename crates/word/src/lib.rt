@@ -1,0 +1,50 @@
+// Words of up to 64 bits: a bit, a one put in, sums modulo 2, comparison and counts; below, the matrix map and messages.
+// Every public function is total, and every contract reads a word through `wordOf`. No other crate does bit arithmetic on a word.
+pub mod matrix;
+pub mod message;
+pub mod count;
+
+ghost use mathlib.Core.Path.{_≡_};
+ghost use Prim.Native.Nat.{_^_};
+ghost use lib.Bits.{bitXor};
+ghost use lib.Dec.{ltb};
+ghost use Rattle.rules.specs.Word as rules;
+ghost use Rattle.word.specs.Words.{wordOf, sizeOf, withOne};
+
+// A word: bit i stands for index i.
+pub type Word = u64;
+
+// N, the number of slots; an n above the largest counts as the largest.
+pub fn slots(n: u32) -> usize
+    ensures { λ r. ⌜ r ≡ 2 ^ sizeOf n ⌝ }
+{
+    if n < 6 { 1 << n } else { 64 }
+}
+
+// Bit i, 0 past the word.
+pub fn bit(w: Word, i: usize) -> u32
+    ensures { λ r. ⌜ r ≡ rules.bit (wordOf w) i ⌝ }
+{
+    if i < 64 { ((w >> i) % 2) as u32 } else { 0 }
+}
+
+// The word with a one put at index i; an index past the word changes nothing.
+pub fn put(w: Word, i: usize) -> Word
+    ensures { λ r. ⌜ wordOf r ≡ withOne (wordOf w) i ⌝ }
+{
+    if i < 64 { w | (1 << i) } else { w }
+}
+
+// The sum of two words, bit by bit modulo 2.
+pub fn xor(a: Word, b: Word) -> Word
+    ensures { λ r. ⌜ wordOf r ≡ bitXor (wordOf a) (wordOf b) ⌝ }
+{
+    a ^ b
+}
+
+// Whether a is the smaller number.
+pub fn less(a: Word, b: Word) -> bool
+    ensures { λ r. ⌜ r ≡ ltb (wordOf a) (wordOf b) ⌝ }
+{
+    a < b
+}
