@@ -1,20 +1,24 @@
+-- `word::slots` meets its contract.
+use mathlib.Core.Path.{_≡_, _∙_, sym, ap}
+use Prim.Native.Nat.{ℕ, _^_, min}
+use native.Mathlib.Omega.{arith}
 use borrow.Author.Needs.{needs}
+use Rattle.word.proofs.Shifts.{one-shifted}
 use Rattle.word.proofs.slots.Statement.{statement}
 use Rattle.word.proofs.slots.Tie as tie
-use Rattle.word.proofs.slots.Reads as reads
-use Rattle.word.proofs.slots.Lts as lts
 
--- src/lib.rt:21:16
 shl-result : tie.Need-shl-result
 shl-result c = search needs
 
--- src/lib.rt:18:1
 returns : tie.Need-returns
-returns c = ?
+returns c =
+    let e : c .before .args .n ≡ min (c .before .args .n) 6 = omega arith in
+    one-shifted _ (omega arith) ∙ ap (λ (k : ℕ). 2 ^ k) e
 
--- src/lib.rt:18:1
 returns-2 : tie.Need-returns-2
-returns-2 c = ?
+returns-2 c =
+    let e : _≡_ {A = ℕ} 6 (min (c .before .args .n) 6) = omega arith in
+    ap (λ (k : ℕ). 2 ^ k) e
 
 pub slots-spec : {M : Type 1} → statement M
 slots-spec = tie.close (tie.spec shl-result returns returns-2)

@@ -1,20 +1,23 @@
+-- `word::count::reaches` meets its contract: past the word no index has a one.
+use mathlib.Core.Path.{sym}
+use Prim.Native.Nat.{ℕ, _^_}
+use native.Mathlib.Nat.{lt-of-lt-of-le}
+use native.Mathlib.Omega.{arith}
+use lib.Pow.{pow-mono}
 use borrow.Author.Needs.{needs}
+use borrow.Author.Tests.{lt-leb}
+use Rattle.word.proofs.Shifts.{one-shifted}
 use Rattle.word.proofs.count.reaches.Statement.{statement}
 use Rattle.word.proofs.count.reaches.Tie as tie
-use Rattle.word.proofs.count.reaches.Reads as reads
-use Rattle.word.proofs.count.reaches.Lts as lts
 
--- src/count.rt:39:18
 shl-result : tie.Need-shl-result
 shl-result c = search needs
 
--- src/count.rt:36:1
 returns : tie.Need-returns
-returns c = ?
+returns c = rw (one-shifted _ (c .if1 .taken))
 
--- src/count.rt:36:1
 returns-2 : tie.Need-returns-2
-returns-2 c = ?
+returns-2 c = sym (lt-leb _ _ (omega (arith, pow-mono {64} (c .if1 .left))))
 
 pub reaches-spec : {M : Type 1} → statement M
 reaches-spec = tie.close (tie.spec shl-result returns returns-2)
