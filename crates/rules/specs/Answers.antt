@@ -77,7 +77,7 @@ unfoldable pub decoded : ℕ → List ℤ → ℕ → ℕ → Decoded
 decoded n levels mask folding =
     decodedAs n mask (levelCost levels) (walkVisits n mask (levelCost levels) folding) (leastWord n mask (levelCost levels))
 
--- 3 to 8, the part of the order that decoding and a record share but for the levels' place in it
+-- 3 to 8: the part of the order that decoding and a record share
 unfoldable pub treeOrder : ℕ → List ℤ → ℕ → ℕ → ℕ → List (Option Refusal)
 treeOrder n levels mask folding allowance =
     wrongMask n mask ∷ wrongFolding n folding ∷ wideFolding folding ∷ outOfRange n levels ∷ noCandidate n mask folding

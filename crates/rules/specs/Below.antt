@@ -4,7 +4,7 @@ use mathlib.Core.Bool.{Bool, true, false, _&&_, cond}
 use mathlib.Core.Option.{Option, none, some}
 use mathlib.Core.List.{List, [], _∷_, _++_}
 
--- one of two ways on, by a test; the other is not gone
+-- one of two ways on, by a test; the other is not computed
 abbrev pub choose : {A : Type 0} → Bool → (Unit {0} → A) → (Unit {0} → A) → A
 choose true a b = a tt
 choose false a b = b tt
@@ -34,9 +34,9 @@ unfoldable pub leastBelow : ℕ → (ℕ → Bool) → (ℕ → ℕ) → Option 
 leastBelow zero test f = none
 leastBelow (suc m) test f = cond (test m) (some (orLess (f m) (leastBelow m test f))) (leastBelow m test f)
 
--- the number that is there, or else what the test says of m
+-- the number that is there, or else m where m passes
 abbrev pub orElse : Option ℕ → Bool → ℕ → Option ℕ
-orElse (some i) test m = some i
+orElse (some i) passes m = some i
 orElse none true m = some m
 orElse none false m = none
 

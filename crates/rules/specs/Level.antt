@@ -73,7 +73,7 @@ bestBelow n mask cost zero = nothing
 bestBelow n mask cost (suc e) =
     cond (permitted n mask e) (keep (wordDistance n cost e) e (bestBelow n mask cost e)) (bestBelow n mask cost e)
 
--- the word that is kept; no word is kept as 0
+-- the word that is kept, 0 where nothing is
 abbrev pub wordKept : Best → ℕ
 wordKept nothing = 0
 wordKept (best p d) = d

@@ -64,7 +64,7 @@ notZero bytes n =
     refuse 12
     (not (eqb (numberAt bytes 2 2) 0 && allBelow recordSlots (λ i. ltb i (2 ^ n) || eqb (numberAt bytes (16 + 2 * i) 2) 0)))
 
--- what reading a record without decoding it answers: 13, 1, 12, 3, 4, 5, or its fields
+-- what reading a record without decoding it answers: the record's order as far as 5, then its fields
 unfoldable pub readAnswer : List ℕ → Answer Fields
 readAnswer bytes =
     let f = fieldsOf bytes in

@@ -86,7 +86,8 @@ abbrev pub isEmpty : List ℕ → Bool
 isEmpty [] = true
 isEmpty (x ∷ xs) = false
 
--- 7: "a level of the tree has no candidate; the level is named"; level 0 is decided first, the group of the largest number
+-- 7: "a level of the tree has no candidate; the level is named". Levels count from 0 in the order in which they are decided,
+-- so that level t decides the group numbered L - 1 - t. A list of fillings always has the filling 0, so this is never given.
 abbrev pub noCandidate : ℕ → ℕ → ℕ → Option Refusal
 noCandidate n mask folding =
     refuseAt 7 (firstBelow (groups n folding) (λ t. isEmpty (fillings mask (group n folding (groups n folding - suc t)))))

@@ -24,7 +24,7 @@ pub data Row : Type 0 where
   encodes : ℕ → ℕ → ℕ → ℕ → ℕ → Row
   -- n, mask, levels and folding; message, distance and visits
   decodes : ℕ → ℕ → List ℤ → ℕ → ℕ → ℕ → ℕ → Row
-  -- n, mask and levels, under every folding; message and distance
+  -- n up to 3, mask and levels, under every folding; message and distance
   decodesAlways : ℕ → ℕ → List ℤ → ℕ → ℕ → Row
   -- a sample; its level
   samples : Float → ℤ → Row

@@ -79,7 +79,7 @@ visit K down p d (c ∷ cs) s =
     (λ _. visit K down p d cs (down (p + c .branch) (d + c .filling) (count s)))
 
 -- "the walk goes down one level with one level fewer left": with k + 1 levels left group k is decided, so that
--- "Groups are decided in falling order of their smallest index"; at the last level the word is kept or not
+-- "Groups are decided in falling order of their smallest index"; with no level left the word is kept or not
 unfoldable pub walk : (K : Keeping) → (ℕ → ℕ → List Candidate) → ℕ → ℕ → ℕ → State K → State K
 walk K candidatesOf zero p d s = record { kept = K .keeps p d (s .kept); visits = s .visits }
 walk K candidatesOf (suc k) p d s = visit K (walk K candidatesOf k) p d (candidatesOf k d) s

@@ -1,48 +1,64 @@
+-- `word::count::fewest_ones` meets its contract. Invariant: what was found is the fewest ones below i.
+use Prim.Native.Nat.{ℕ, suc, _≤_, _-_, _^_}
+use mathlib.Core.Option.{Option, some}
+use mathlib.Core.Path.{_≡_, _∙_, sym, ap}
+use mathlib.Core.Logic.{⊎-elim}
+use native.Mathlib.Numerals.{add-one}
+use native.Mathlib.Omega.{arith}
+use lib.Count.{ones}
+use borrow.Author.Needs.{needs}
+use borrow.Author.Tests.{eq-eqb, ne-eqb}
+use Rattle.rules.specs.Below.{leastBelow, orLess}
+use Rattle.rules.specs.Word.{unfrozen}
+use Rattle.word.specs.Words.{sizeOf, fewestOf}
 use Rattle.word.proofs.count.fewest_ones.Statement.{statement}
 use Rattle.word.proofs.count.fewest_ones.Tie as tie
-use Rattle.word.proofs.count.fewest_ones.Reads as reads
-use Rattle.word.proofs.count.fewest_ones.Lts as lts
-use Rattle.word.proofs.bit.Reads as bit-reads
-use Rattle.word.proofs.count.fewer.Reads as fewer-reads
-use Rattle.word.proofs.slots.Reads as slots-reads
 
 abbrev Inv-loop : tie.InvT-loop
-Inv-loop n frozen slots found₀ i₀ found i = ?
+Inv-loop n frozen slots found₀ i₀ found i = (i ≤ slots) × (fewestOf found ≡ leastBelow i (unfrozen frozen) ones)
 
 abbrev μ-loop : tie.MeasureT-loop
-μ-loop n frozen slots found₀ i₀ found i = ?
+μ-loop n frozen slots found₀ i₀ found i = slots - i
 
--- src/count.rt:77:9
 slots-requires : tie.Need-slots-requires Inv-loop μ-loop
-slots-requires c κs = ?
+slots-requires c κs = search needs
 
--- src/count.rt:80:5
 loop-holds : tie.Need-loop-holds Inv-loop μ-loop
-loop-holds c = ?
+unfolding leastBelow
+loop-holds c = search needs
 
--- src/count.rt:81:12
 bit-requires : tie.Need-bit-requires Inv-loop μ-loop
-bit-requires c κs = ?
+bit-requires c κs = search needs
 
--- src/count.rt:82:13
 fewer-requires : tie.Need-fewer-requires Inv-loop μ-loop
-fewer-requires c κs = ?
+fewer-requires c κs = search needs
 
--- src/count.rt:84:9
 add-i : tie.Need-add-i Inv-loop μ-loop
-add-i c = ?
+add-i c = omega arith
 
--- src/count.rt:80:5
 loop-less : tie.Need-loop-less Inv-loop μ-loop
-loop-less c = ?
+loop-less c = omega arith
 
--- src/count.rt:80:5
 loop-again : tie.Need-loop-again Inv-loop μ-loop
-loop-again c = ?
+unfolding leastBelow
+loop-again c =
+    let before = c .before .before .before .loop .inv .1 in
+    let read = c .before .bit .ensures in
+    (omega arith,
+    rw add-one
+    (⊎-elim
+    (λ w.
+      rw (eq-eqb _ _ (sym read ∙ w .0 .taken))
+      (ap fewestOf (w .2) ∙ w .1 .ensures ∙ ap (λ (f : Option ℕ). some (orLess (ones (c .before .before .before .loop .i)) f)) before))
+    (λ w. rw (ne-eqb _ _ (λ e. w .0 .left (read ∙ e))) (ap fewestOf (w .1) ∙ before))
+    (c .if1 .came)))
 
--- src/count.rt:74:1
 returns : tie.Need-returns Inv-loop μ-loop
-returns c = ?
+returns c =
+    let last : c .before .loop .i ≡ 2 ^ sizeOf (c .before .before .before .args .n) =
+      omega (arith, c .before .before .slots .ensures)
+    in
+    c .before .loop .inv .1 ∙ ap (λ (m : ℕ). leastBelow m (unfrozen (c .before .before .before .args .frozen)) ones) last
 
 pub fewest-ones-spec : {M : Type 1} → statement M
 fewest-ones-spec =

@@ -17,7 +17,7 @@ returns : tie.Need-returns
 returns c = rw (one-shifted _ (c .if1 .taken))
 
 returns-2 : tie.Need-returns-2
-returns-2 c = sym (lt-leb _ _ (omega (arith, pow-mono {64} (c .if1 .left))))
+returns-2 c = sym (lt-leb (2 ^ (c .before .args .i)) (c .before .args .w) (omega (arith, pow-mono {i = 64} (c .if1 .left))))
 
 pub reaches-spec : {M : Type 1} → statement M
 reaches-spec = tie.close (tie.spec shl-result returns returns-2)
