@@ -1,60 +1,62 @@
+-- `word::message::gather` meets its contract. Invariant: the message has the bits of the unfrozen indices below i.
+use Prim.Native.Nat.{ℕ, suc, _+_, _-_, _*_, _^_, _≤_, _<_}
+use mathlib.Core.Path.{_≡_, _∙_, sym, ap, refl}
+use mathlib.Core.Logic.{⊎-elim}
+use native.Mathlib.Omega.{arith}
+use borrow.Author.Needs.{needs}
+use borrow.Author.Tests.{eq-eqb, ne-eqb}
+use Rattle.rules.specs.Word.{bit, unfrozen, place, gather}
+use Rattle.word.specs.Words.{sizeOf}
+use Rattle.laws.specs.Bits.{bit-lt-two}
+use Rattle.word.proofs.Shifts.{slots-le}
+use Rattle.word.proofs.Moves.{Moved, movedBelow, moved-none, moved-unfrozen, moved-frozen}
 use Rattle.word.proofs.message.gather.Statement.{statement}
 use Rattle.word.proofs.message.gather.Tie as tie
-use Rattle.word.proofs.message.gather.Reads as reads
-use Rattle.word.proofs.message.gather.Lts as lts
-use Rattle.word.proofs.bit.Reads as bit-reads
-use Rattle.word.proofs.message.moved.Reads as moved-reads
-use Rattle.word.proofs.slots.Reads as slots-reads
 
 abbrev Inv-loop : tie.InvT-loop
-Inv-loop n frozen d slots message₀ place₀ i₀ message place i = ?
+Inv-loop n frozen d slots message₀ place₀ i₀ message placed i =
+    (i ≤ slots) × (placed ≤ i) × Moved frozen (bit d) (place frozen) i message placed
 
 abbrev μ-loop : tie.MeasureT-loop
-μ-loop n frozen d slots message₀ place₀ i₀ message place i = ?
+μ-loop n frozen d slots message₀ place₀ i₀ message placed i = slots - i
 
--- src/message.rt:40:9
 slots-requires : tie.Need-slots-requires Inv-loop μ-loop
-slots-requires c κs = ?
+slots-requires c κs = search needs
 
--- src/message.rt:44:5
 loop-holds : tie.Need-loop-holds Inv-loop μ-loop
-loop-holds c = ?
+loop-holds c = (omega arith, omega arith, moved-none _ _ _)
 
--- src/message.rt:45:12
 bit-requires : tie.Need-bit-requires Inv-loop μ-loop
-bit-requires c κs = ?
+bit-requires c κs = search needs
 
--- src/message.rt:46:30
 bit-requires-2 : tie.Need-bit-requires-2 Inv-loop μ-loop
-bit-requires-2 c κs = ?
+bit-requires-2 c κs = search needs
 
--- src/message.rt:46:24
 moved-requires : tie.Need-moved-requires Inv-loop μ-loop
-moved-requires c κs = ?
+moved-requires c κs = ?mr
 
--- src/message.rt:46:13
 add-message : tie.Need-add-message Inv-loop μ-loop
-add-message c = ?
+add-message c = ?ad
 
--- src/message.rt:47:13
 add-place : tie.Need-add-place Inv-loop μ-loop
-add-place c = ?
+add-place c = omega (arith, slots-le (c .before .before .before .before .before .before .before .args .n))
 
--- src/message.rt:49:9
 add-i : tie.Need-add-i Inv-loop μ-loop
-add-i c = ?
+add-i c = omega arith
 
--- src/message.rt:44:5
 loop-less : tie.Need-loop-less Inv-loop μ-loop
-loop-less c = ?
+loop-less c = omega arith
 
--- src/message.rt:44:5
 loop-again : tie.Need-loop-again Inv-loop μ-loop
-loop-again c = ?
+loop-again c = ?la
 
--- src/message.rt:37:1
 returns : tie.Need-returns Inv-loop μ-loop
-returns c = ?
+unfolding gather
+returns c =
+    let last : c .before .loop .i ≡ 2 ^ sizeOf (c .before .before .before .args .n) =
+      omega (arith, c .before .before .slots .ensures)
+    in
+    c .before .loop .inv .2 .moved ∙ ap (movedBelow _ _ _) last
 
 pub gather-spec : {M : Type 1} → statement M
 gather-spec =

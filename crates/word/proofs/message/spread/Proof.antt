@@ -1,60 +1,62 @@
+-- `word::message::spread` meets its contract. Invariant: the word has the message's bits at the unfrozen indices below i.
+use Prim.Native.Nat.{ℕ, suc, _+_, _-_, _*_, _^_, _≤_, _<_}
+use mathlib.Core.Path.{_≡_, _∙_, sym, ap, refl}
+use mathlib.Core.Logic.{⊎-elim}
+use native.Mathlib.Omega.{arith}
+use borrow.Author.Needs.{needs}
+use borrow.Author.Tests.{eq-eqb, ne-eqb}
+use Rattle.rules.specs.Word.{bit, unfrozen, place, spread}
+use Rattle.word.specs.Words.{sizeOf}
+use Rattle.laws.specs.Bits.{bit-lt-two}
+use Rattle.word.proofs.Shifts.{slots-le}
+use Rattle.word.proofs.Moves.{Moved, movedBelow, moved-none, moved-unfrozen, moved-frozen}
 use Rattle.word.proofs.message.spread.Statement.{statement}
 use Rattle.word.proofs.message.spread.Tie as tie
-use Rattle.word.proofs.message.spread.Reads as reads
-use Rattle.word.proofs.message.spread.Lts as lts
-use Rattle.word.proofs.bit.Reads as bit-reads
-use Rattle.word.proofs.message.moved.Reads as moved-reads
-use Rattle.word.proofs.slots.Reads as slots-reads
 
 abbrev Inv-loop : tie.InvT-loop
-Inv-loop n frozen message slots d₀ place₀ i₀ d place i = ?
+Inv-loop n frozen message slots d₀ place₀ i₀ d placed i =
+    (i ≤ slots) × (placed ≤ i) × Moved frozen (λ j. bit message (place frozen j)) (λ j. j) i d placed
 
 abbrev μ-loop : tie.MeasureT-loop
-μ-loop n frozen message slots d₀ place₀ i₀ d place i = ?
+μ-loop n frozen message slots d₀ place₀ i₀ d placed i = slots - i
 
--- src/message.rt:22:9
 slots-requires : tie.Need-slots-requires Inv-loop μ-loop
-slots-requires c κs = ?
+slots-requires c κs = search needs
 
--- src/message.rt:26:5
 loop-holds : tie.Need-loop-holds Inv-loop μ-loop
-loop-holds c = ?
+loop-holds c = (omega arith, omega arith, moved-none _ _ _)
 
--- src/message.rt:27:12
 bit-requires : tie.Need-bit-requires Inv-loop μ-loop
-bit-requires c κs = ?
+bit-requires c κs = search needs
 
--- src/message.rt:28:24
 bit-requires-2 : tie.Need-bit-requires-2 Inv-loop μ-loop
-bit-requires-2 c κs = ?
+bit-requires-2 c κs = search needs
 
--- src/message.rt:28:18
 moved-requires : tie.Need-moved-requires Inv-loop μ-loop
-moved-requires c κs = ?
+moved-requires c κs = ?mr
 
--- src/message.rt:28:13
 add-d : tie.Need-add-d Inv-loop μ-loop
-add-d c = ?
+add-d c = ?ad
 
--- src/message.rt:29:13
 add-place : tie.Need-add-place Inv-loop μ-loop
-add-place c = ?
+add-place c = omega (arith, slots-le (c .before .before .before .before .before .before .before .args .n))
 
--- src/message.rt:31:9
 add-i : tie.Need-add-i Inv-loop μ-loop
-add-i c = ?
+add-i c = omega arith
 
--- src/message.rt:26:5
 loop-less : tie.Need-loop-less Inv-loop μ-loop
-loop-less c = ?
+loop-less c = omega arith
 
--- src/message.rt:26:5
 loop-again : tie.Need-loop-again Inv-loop μ-loop
-loop-again c = ?
+loop-again c = ?la
 
--- src/message.rt:19:1
 returns : tie.Need-returns Inv-loop μ-loop
-returns c = ?
+unfolding spread
+returns c =
+    let last : c .before .loop .i ≡ 2 ^ sizeOf (c .before .before .before .args .n) =
+      omega (arith, c .before .before .slots .ensures)
+    in
+    c .before .loop .inv .2 .moved ∙ ap (movedBelow _ _ _) last
 
 pub spread-spec : {M : Type 1} → statement M
 spread-spec =

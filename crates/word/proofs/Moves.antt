@@ -1,0 +1,49 @@
+-- Bits moved one by one over the unfrozen indices: the invariant that spreading and gathering share, and its two steps.
+use Prim.Native.Nat.{ℕ, zero, suc, _+_, _*_, _^_, _≤_, _<_}
+use mathlib.Core.Path.{_≡_, _∙_, sym, ap, ap₂, refl, subst}
+use mathlib.Core.Bool.{true, false, cond}
+use native.Mathlib.Nat.{lt-of-lt-of-le, add-zero, le-of-eq, le-suc}
+use native.Mathlib.Numerals.{add-one}
+use native.Mathlib.Omega.{arith}
+use lib.Pow.{pow-mono}
+use Rattle.rules.specs.Below.{sumBelow, countBelow}
+use Rattle.rules.specs.Word.{unfrozen, place}
+use Rattle.word.proofs.Shifts.{bit-above}
+
+-- what the bits of the unfrozen indices below m add up to, index i having the bit `value i`, moved to `to i`
+abbrev pub movedBelow : ℕ → (ℕ → ℕ) → (ℕ → ℕ) → ℕ → ℕ
+movedBelow frozen value to m = sumBelow m (λ i. cond (unfrozen frozen i) (value i * 2 ^ to i) 0)
+
+-- after the indices below i: the bits moved so far, how many there were, and that they lie below where index i goes
+pub record Moved (frozen : ℕ) (value to : ℕ → ℕ) (i sum placed : ℕ) : Type 0 where
+  pub moved : sum ≡ movedBelow frozen value to i
+  pub counted : placed ≡ place frozen i
+  pub room : sum < 2 ^ to i
+
+pub moved-none : (frozen : ℕ) (value to : ℕ → ℕ) → Moved frozen value to 0 0 0
+unfolding sumBelow countBelow
+moved-none frozen value to = record { moved = refl; counted = refl; room = lib.Pow.pow-pos (to 0) }
+
+module _ {frozen : ℕ} {value to : ℕ → ℕ} {i sum placed : ℕ} (before : Moved frozen value to i sum placed) where
+  -- past an unfrozen index
+  pub moved-unfrozen : unfrozen frozen i ≡ true → to (suc i) ≡ suc (to i) → value i < 2
+      → Moved frozen value to (i + 1) (sum + value i * 2 ^ to i) (placed + 1)
+  unfolding sumBelow countBelow
+  moved-unfrozen free next small =
+      rw (add-one i)
+      (record {
+        moved = rw free (ap (λ (x : ℕ). x + value i * 2 ^ to i) (before .moved));
+        counted = rw free (ap (λ (x : ℕ). x + 1) (before .counted));
+        room = rw next (bit-above sum (value i) (to i) (before .room) small)
+      })
+
+  -- past a frozen index
+  pub moved-frozen : unfrozen frozen i ≡ false → to i ≤ to (suc i) → Moved frozen value to (i + 1) sum placed
+  unfolding sumBelow countBelow
+  moved-frozen shut later =
+      rw (add-one i)
+      (record {
+        moved = rw shut (before .moved ∙ sym (add-zero _));
+        counted = rw shut (before .counted ∙ sym (add-zero _));
+        room = lt-of-lt-of-le (before .room) (pow-mono later)
+      })
