@@ -1,3 +1,4 @@
 pub mod Answers
 pub mod Sums
 pub mod Bits
+pub mod Places
