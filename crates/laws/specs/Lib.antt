@@ -3,3 +3,4 @@ pub mod Sums
 pub mod Bits
 pub mod Places
 pub mod Highest
+pub mod Permitted
