@@ -25,16 +25,16 @@ unfolding sumBelow countBelow
 moved-none frozen value to = record { moved = refl; counted = refl; room = lib.Pow.pow-pos (to 0) }
 
 module _ {frozen : ℕ} {value to : ℕ → ℕ} {i sum placed : ℕ} (before : Moved frozen value to i sum placed) where
-  -- past an unfrozen index
-  pub moved-unfrozen : unfrozen frozen i ≡ true → to (suc i) ≡ suc (to i) → value i < 2
-      → Moved frozen value to (i + 1) (sum + value i * 2 ^ to i) (placed + 1)
+  -- past an unfrozen index, whose bit b was moved to its place p
+  pub moved-unfrozen : (b p : ℕ) → b ≡ value i → p ≡ to i → b < 2 → unfrozen frozen i ≡ true → to (suc i) ≡ suc (to i)
+      → Moved frozen value to (i + 1) (sum + b * 2 ^ p) (placed + 1)
   unfolding sumBelow countBelow
-  moved-unfrozen free next small =
+  moved-unfrozen b p isBit isPlace small free next =
       rw (add-one i)
       (record {
-        moved = rw free (ap (λ (x : ℕ). x + value i * 2 ^ to i) (before .moved));
+        moved = rw free (ap₂ (λ (x y : ℕ). x + y) (before .moved) (ap₂ (λ (x y : ℕ). x * 2 ^ y) isBit isPlace));
         counted = rw free (ap (λ (x : ℕ). x + 1) (before .counted));
-        room = rw next (bit-above sum (value i) (to i) (before .room) small)
+        room = rw (next, isPlace) (bit-above sum b (to i) (before .room) small)
       })
 
   -- past a frozen index
@@ -47,3 +47,8 @@ module _ {frozen : ℕ} {value to : ℕ → ℕ} {i sum placed : ℕ} (before : 
         counted = rw shut (before .counted ∙ sym (add-zero _));
         room = lt-of-lt-of-le (before .room) (pow-mono later)
       })
+
+  -- a bit moved to a place below 64 fits a word
+  pub moved-fits : (b p : ℕ) → p ≡ to i → b < 2 → p < 64 → sum + b * 2 ^ p < 2 ^ 64
+  moved-fits b p isPlace small fits =
+      lt-of-lt-of-le (bit-above sum b p (rw isPlace (before .room)) small) (pow-mono fits)

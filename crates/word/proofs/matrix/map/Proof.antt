@@ -1,45 +1,36 @@
+-- `word::matrix::map` meets its contract, by the law of halves.
+use mathlib.Core.Path.{sym}
+use Rattle.laws.specs.Matrix.{codeword-halves}
 use borrow.Author.Needs.{needs}
 use Rattle.word.proofs.matrix.map.Statement.{statement}
 use Rattle.word.proofs.matrix.map.Tie as tie
-use Rattle.word.proofs.matrix.map.Reads as reads
-use Rattle.word.proofs.matrix.map.Lts as lts
-use Rattle.word.proofs.matrix.map32.Reads as map32-reads
 
--- src/matrix.rt:57:17
 cast-upper : tie.Need-cast-upper
 cast-upper c = search needs
 
--- src/matrix.rt:58:17
 cast-lower : tie.Need-cast-lower
 cast-lower c = search needs
 
--- src/matrix.rt:59:6
 map32-requires : tie.Need-map32-requires
 map32-requires c κs = search needs
 
--- src/matrix.rt:59:6
 cast-result : tie.Need-cast-result
 cast-result c = search needs
 
--- src/matrix.rt:59:5
 mul-result : tie.Need-mul-result
 mul-result c = search needs
 
--- src/matrix.rt:59:43
 map32-requires-2 : tie.Need-map32-requires-2
 map32-requires-2 c κs = search needs
 
--- src/matrix.rt:59:43
 cast-result-2 : tie.Need-cast-result-2
 cast-result-2 c = search needs
 
--- src/matrix.rt:59:5
 add-result : tie.Need-add-result
 add-result c = search needs
 
--- src/matrix.rt:54:1
 returns : tie.Need-returns
-returns c = ?
+returns c = rw (c .before .map32 .ensures, c .map322 .ensures) (sym (codeword-halves 5 _))
 
 pub map-spec : {M : Type 1} → statement M
 map-spec =

@@ -2,14 +2,16 @@
 use Prim.Native.Nat.{ℕ, suc, _+_, _-_, _*_, _^_, _≤_, _<_}
 use mathlib.Core.Path.{_≡_, _∙_, sym, ap, refl}
 use mathlib.Core.Logic.{⊎-elim}
+use native.Mathlib.Nat.{le-of-eq}
 use native.Mathlib.Omega.{arith}
 use borrow.Author.Needs.{needs}
 use borrow.Author.Tests.{eq-eqb, ne-eqb}
 use Rattle.rules.specs.Word.{bit, unfrozen, place, gather}
 use Rattle.word.specs.Words.{sizeOf}
 use Rattle.laws.specs.Bits.{bit-lt-two}
+use Rattle.laws.specs.Places.{count-passing, count-failing}
 use Rattle.word.proofs.Shifts.{slots-le}
-use Rattle.word.proofs.Moves.{Moved, movedBelow, moved-none, moved-unfrozen, moved-frozen}
+use Rattle.word.proofs.Moves.{Moved, movedBelow, moved-none, moved-unfrozen, moved-frozen, moved-fits}
 use Rattle.word.proofs.message.gather.Statement.{statement}
 use Rattle.word.proofs.message.gather.Tie as tie
 
@@ -33,10 +35,18 @@ bit-requires-2 : tie.Need-bit-requires-2 Inv-loop μ-loop
 bit-requires-2 c κs = search needs
 
 moved-requires : tie.Need-moved-requires Inv-loop μ-loop
-moved-requires c κs = ?mr
+moved-requires c κs =
+    (rw (c .bit2 .ensures) (bit-lt-two _ _), omega (arith, slots-le (c .before .before .before .before .before .before .args .n)))
 
 add-message : tie.Need-add-message Inv-loop μ-loop
-add-message c = ?ad
+add-message c =
+    record {
+      fits =
+        rw (c .moved .ensures)
+        (moved-fits (c .before .before .before .before .before .loop .inv .2) _ _ (c .before .before .before .before .before .loop .inv .2 .counted)
+        (rw (c .before .bit2 .ensures) (bit-lt-two _ _))
+        (omega (arith, slots-le (c .before .before .before .before .before .before .before .args .n))))
+    }
 
 add-place : tie.Need-add-place Inv-loop μ-loop
 add-place c = omega (arith, slots-le (c .before .before .before .before .before .before .before .args .n))
@@ -48,7 +58,19 @@ loop-less : tie.Need-loop-less Inv-loop μ-loop
 loop-less c = omega arith
 
 loop-again : tie.Need-loop-again Inv-loop μ-loop
-loop-again c = ?la
+loop-again c =
+    let before = c .before .before .before .loop .inv .2 in
+    let read = c .before .bit .ensures in
+    ⊎-elim
+    (λ w.
+      let free = eq-eqb _ _ (sym read ∙ w .0 .taken) in
+      (omega arith, omega arith,
+      rw (w .3, w .4, w .2 .ensures)
+      (moved-unfrozen before _ _ (w .1 .ensures) (before .counted) (rw (w .1 .ensures) (bit-lt-two _ _)) free (count-passing (unfrozen _) _ free))))
+    (λ w.
+      let shut = ne-eqb _ _ (λ e. w .0 .left (read ∙ e)) in
+      (omega arith, omega arith, rw (w .1, w .2) (moved-frozen before shut (le-of-eq (sym (count-failing (unfrozen _) _ shut))))))
+    (c .if1 .came)
 
 returns : tie.Need-returns Inv-loop μ-loop
 unfolding gather

@@ -9,7 +9,7 @@ use Rattle.rules.specs.Word.{bit, unfrozen, place, spread}
 use Rattle.word.specs.Words.{sizeOf}
 use Rattle.laws.specs.Bits.{bit-lt-two}
 use Rattle.word.proofs.Shifts.{slots-le}
-use Rattle.word.proofs.Moves.{Moved, movedBelow, moved-none, moved-unfrozen, moved-frozen}
+use Rattle.word.proofs.Moves.{Moved, movedBelow, moved-none, moved-unfrozen, moved-frozen, moved-fits}
 use Rattle.word.proofs.message.spread.Statement.{statement}
 use Rattle.word.proofs.message.spread.Tie as tie
 
@@ -33,10 +33,18 @@ bit-requires-2 : tie.Need-bit-requires-2 Inv-loop μ-loop
 bit-requires-2 c κs = search needs
 
 moved-requires : tie.Need-moved-requires Inv-loop μ-loop
-moved-requires c κs = ?mr
+moved-requires c κs =
+    (rw (c .bit2 .ensures) (bit-lt-two _ _), omega (arith, slots-le (c .before .before .before .before .before .before .args .n)))
 
 add-d : tie.Need-add-d Inv-loop μ-loop
-add-d c = ?ad
+add-d c =
+    record {
+      fits =
+        rw (c .moved .ensures)
+        (moved-fits (c .before .before .before .before .before .loop .inv .2) _ _ (refl)
+        (rw (c .before .bit2 .ensures) (bit-lt-two _ _))
+        (omega (arith, slots-le (c .before .before .before .before .before .before .before .args .n))))
+    }
 
 add-place : tie.Need-add-place Inv-loop μ-loop
 add-place c = omega (arith, slots-le (c .before .before .before .before .before .before .before .args .n))
@@ -48,7 +56,19 @@ loop-less : tie.Need-loop-less Inv-loop μ-loop
 loop-less c = omega arith
 
 loop-again : tie.Need-loop-again Inv-loop μ-loop
-loop-again c = ?la
+loop-again c =
+    let before = c .before .before .before .loop .inv .2 in
+    let read = c .before .bit .ensures in
+    ⊎-elim
+    (λ w.
+      let free = eq-eqb _ _ (sym read ∙ w .0 .taken) in
+      (omega arith, omega arith,
+      rw (w .3, w .4, w .2 .ensures)
+      (moved-unfrozen before _ _ (w .1 .ensures ∙ ap (bit (c .before .before .before .before .before .args .message)) (before .counted)) refl (rw (w .1 .ensures) (bit-lt-two _ _)) free refl)))
+    (λ w.
+      let shut = ne-eqb _ _ (λ e. w .0 .left (read ∙ e)) in
+      (omega arith, omega arith, rw (w .1, w .2) (moved-frozen before shut (omega arith))))
+    (c .if1 .came)
 
 returns : tie.Need-returns Inv-loop μ-loop
 unfolding spread
