@@ -4,3 +4,4 @@ pub mod Bits
 pub mod Places
 pub mod Highest
 pub mod Permitted
+pub mod Message
