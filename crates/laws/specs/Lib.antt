@@ -5,3 +5,4 @@ pub mod Matrix
 pub mod Places
 pub mod Highest
 pub mod Permitted
+pub mod Message
