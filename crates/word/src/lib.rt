@@ -9,10 +9,18 @@ ghost use Prim.Native.Nat.{_^_};
 ghost use lib.Bits.{bitXor};
 ghost use lib.Dec.{ltb};
 ghost use Rattle.rules.specs.Word as rules;
+ghost use Rattle.rules.specs.Refusals.{isWrongSize};
 ghost use Rattle.word.specs.Words.{wordOf, sizeOf, withOne};
 
 // A word: bit i stands for index i.
 pub type Word = u64;
+
+// Whether n is not 1..6.
+pub fn wrong_size(n: u32) -> bool
+    ensures { λ r. ⌜ r ≡ isWrongSize n ⌝ }
+{
+    n < 1 || 6 < n
+}
 
 // N, the number of slots; an n above the largest counts as the largest.
 pub fn slots(n: u32) -> usize
