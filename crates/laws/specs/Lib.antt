@@ -6,3 +6,5 @@ pub mod Places
 pub mod Highest
 pub mod Permitted
 pub mod Message
+pub mod Counts
+pub mod LeastBelow
