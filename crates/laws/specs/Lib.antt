@@ -8,3 +8,4 @@ pub mod Permitted
 pub mod Message
 pub mod Counts
 pub mod LeastBelow
+pub mod ReedMuller
