@@ -1,0 +1,59 @@
+-- What a passed or failed test of the code says of the rules' tests at the n that was handed in.
+use Prim.Native.Nat.{ℕ, _*_, _%_, _^_, _≤_, _<_, min}
+use mathlib.Core.Option.{some}
+use mathlib.Core.Path.{_≡_, sym, _∙_, ap}
+use mathlib.Core.Bool.{Bool, true, false, _||_}
+use native.Mathlib.Omega.{arith}
+use lib.Count.{ones, ones-le}
+use lib.Dec.{leb, ltb}
+use lib.Pow.{shl-exact}
+use borrow.Author.Tests.{ltb-false}
+use Rattle.rules.specs.Refusals.{isWrongSize}
+use Rattle.rules.specs.Word.{unfrozen, messageBits, spread, codeword}
+use Rattle.rules.specs.Answers.{Encoded, encoded}
+use Rattle.rules.specs.Guard.{fewestOnes}
+use Rattle.laws.specs.Matrix.{codeword-longer}
+use Rattle.laws.specs.Message.{spread-lt}
+use Rattle.laws.specs.LeastBelow.{least-some-at}
+use Rattle.word.specs.Words.{sizeOf}
+
+or-false : (s t : Bool) → (s || t) ≡ false → (s ≡ false) × (t ≡ false)
+or-false true t e = (e, absurd (mathlib.Core.Bool.true≢false e))
+or-false false t e = (mathlib.Core.Path.refl, e)
+
+-- a size that is not wrong is at most the largest, and so its own
+pub size-le : (n : ℕ) → isWrongSize n ≡ false → n ≤ 6
+size-le n e = ltb-false 6 n (or-false (ltb n 1) (ltb 6 n) e .1)
+
+pub right-size : (n : ℕ) → isWrongSize n ≡ false → sizeOf n ≡ n
+right-size n e = omega (arith, size-le n e)
+
+module _ (n : ℕ) (right : isWrongSize n ≡ false) where
+  -- a test of the mask against the slots is the rules' test
+  pub mask-test : (mask slots : ℕ) (t : Bool) → slots ≡ 2 ^ sizeOf n → t ≡ leb (2 ^ slots) mask → leb (2 ^ (2 ^ n)) mask ≡ t
+  mask-test mask slots t count test = sym (test ∙ ap (λ (m : ℕ). leb (2 ^ m) mask) (count ∙ ap (λ (k : ℕ). 2 ^ k) (right-size n right)))
+
+  -- a test of the message against K is the rules' test
+  pub message-test : (mask bits message : ℕ) (t : Bool) → bits ≡ messageBits (sizeOf n) mask → t ≡ leb (2 ^ bits) message
+      → leb (2 ^ messageBits n mask) message ≡ t
+  message-test mask bits message t count test =
+      sym (test ∙ ap (λ (m : ℕ). leb (2 ^ m) message) (count ∙ ap (λ (k : ℕ). messageBits k mask) (right-size n right)))
+
+  -- the words of a message, made at the size and mapped at the largest n, are the rules'
+  pub words-right : (mask message d x : ℕ) → d ≡ spread (sizeOf n) mask message → x ≡ codeword 6 d
+      → _≡_ {A = Encoded} (record { d = d; x = x }) (encoded n mask message)
+  words-right mask message d x isWord isCode =
+      let word : d ≡ spread n mask message = isWord ∙ ap (λ (k : ℕ). spread k mask message) (right-size n right) in
+      let code : x ≡ codeword n (spread n mask message) =
+        isCode ∙ ap (codeword 6) word ∙ codeword-longer n 6 _ (size-le n right) (spread-lt n mask message)
+      in
+      λ i. record { d = word i; x = code i }
+
+-- the fewest ones of an index are few, and 256 times their power of two fits
+pub fewest-small : (n mask w : ℕ) → fewestOnes (sizeOf n) mask ≡ some w → w ≤ 6
+fewest-small n mask w e =
+    let at = least-some-at (unfrozen mask) ones (2 ^ sizeOf n) w e in
+    omega (arith, ones-le (sizeOf n) (at .index) (at .inside), at .value)
+
+pub guard-fits : (w : ℕ) → w ≤ 6 → 256 * 2 ^ w % 2 ^ 32 ≡ 256 * 2 ^ w
+guard-fits w small = shl-exact 9 w 32 (omega arith) (omega arith)
