@@ -2,3 +2,4 @@ pub mod Answers
 pub mod Sums
 pub mod Bits
 pub mod Matrix
+pub mod Weight
