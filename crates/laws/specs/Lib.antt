@@ -3,3 +3,6 @@ pub mod Sums
 pub mod Bits
 pub mod Matrix
 pub mod Weight
+pub mod Guard
+pub mod Permitted
+pub mod Margin
