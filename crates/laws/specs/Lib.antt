@@ -6,3 +6,6 @@ pub mod Weight
 pub mod Guard
 pub mod Permitted
 pub mod Margin
+pub mod Each
+pub mod Tight
+pub mod Demand3
