@@ -28,7 +28,15 @@ bit-div w k i = ap (λ (x : ℕ). x % 2) (shr-shr w k i)
 
 -- no one bit stands beyond a number's size
 pub bit-beyond : {w k i : ℕ} → w < 2 ^ k → k ≤ i → bit w i ≡ 0
-bit-beyond {w} {k} {i} h l = rw (div-eq-of-lt {n = w} {m = 2 ^ i} (omega (arith, pow-mono l)))
+bit-beyond {w = w} {k = k} {i = i} h l = rw (div-eq-of-lt {n = w} {m = 2 ^ i} (omega (arith, pow-mono l)))
+
+-- a one bit stands within a number's size
+pub bit-within : {w k i : ℕ} → w < 2 ^ k → bit w i ≡ 1 → i < k
+bit-within {w} {k} {i} h b = go (decLt i k)
+  where
+    go : Dec (i < k) → i < k
+    go (yes l) = l
+    go (no g) = absurd (omega (arith, bit-beyond {w = w} {k = k} {i = i} h (omega arith)))
 
 -- the low k bits of w are its own
 pub bit-mod : (w k i : ℕ) → i < k → bit (w % 2 ^ k) i ≡ bit w i

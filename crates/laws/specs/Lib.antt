@@ -9,3 +9,9 @@ pub mod Message
 pub mod Counts
 pub mod LeastBelow
 pub mod ReedMuller
+pub mod Weight
+pub mod Guard
+pub mod Margin
+pub mod Each
+pub mod Tight
+pub mod Demand3

@@ -10,7 +10,7 @@ use borrow.Author.Tests.{ltb-true, lt-ltb, eqb-true, eq-eqb}
 use Rattle.rules.specs.Below.{allBelow}
 use Rattle.rules.specs.Word.{bit, unfrozen, permitted}
 use Rattle.laws.specs.Sums.{all-at, all-of}
-use Rattle.laws.specs.Bits.{bit-zero, bit-xor, bit-pow-other}
+use Rattle.laws.specs.Bits.{bit-within, bit-zero, bit-xor, bit-pow-other}
 
 clear : ℕ → ℕ → ℕ → Bool
 clear mask d i = unfrozen mask i || eqb (bit d i) 0
@@ -28,6 +28,14 @@ module _ (n mask : ℕ) where
   pub permitted-frozen : (d : ℕ) → permitted n mask d ≡ true → (i : ℕ) → i < 2 ^ n → unfrozen mask i ≡ false → bit d i ≡ 0
   unfolding clear
   permitted-frozen d h i l f = eqb-true (bit d i) 0 (rw f at (all-at (2 ^ n) (clear mask d) (parts d h .1) i l))
+
+  -- so that its one bits stand at unfrozen indices
+  pub permitted-at : (d : ℕ) → permitted n mask d ≡ true → (i : ℕ) → bit d i ≡ 1 → unfrozen mask i ≡ true
+  permitted-at d h i one = go (unfrozen mask i) refl
+    where
+      go : (u : Bool) → unfrozen mask i ≡ u → u ≡ true
+      go true e = refl
+      go false e = absurd (omega (arith, permitted-frozen d h i (bit-within (permitted-lt d h) one) e))
 
   -- such a word is permitted
   pub permitted-of : (d : ℕ) → d < 2 ^ (2 ^ n) → ((i : ℕ) → i < 2 ^ n → unfrozen mask i ≡ false → bit d i ≡ 0)
