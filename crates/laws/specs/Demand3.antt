@@ -1,8 +1,8 @@
 -- Demand 3: below the guard the least word is the word sent; at the guard it need not be.
 use Prim.Native.Nat.{ℕ, _*_, _^_, _≤_, _<_}
-use mathlib.Core.Path.{_≡_, sym, ap, _∙_}
+use mathlib.Core.Path.{_≡_, refl, sym, ap, _∙_}
 use mathlib.Core.Logic.{_≢_}
-use mathlib.Core.Bool.{true}
+use mathlib.Core.Bool.{Bool, true, false, cond}
 use mathlib.Core.Option.{some}
 use mathlib.Core.List.{List}
 use native.Mathlib.Nat.{le-refl, le-of-lt}
@@ -11,33 +11,41 @@ use native.Mathlib.Omega.{arith}
 use lib.IntN.{ℤ}
 use lib.ListN.{length}
 use lib.Pow.{pow-pos}
-use Rattle.rules.specs.Below.{sumBelow}
-use Rattle.rules.specs.Word.{bit, codeword, permitted}
-use Rattle.rules.specs.Level.{inRange, levelAt, gap, levelCost, wordDistance, Least}
+use Rattle.rules.specs.Word.{codeword, unfrozen, permitted, place, gather}
+use Rattle.rules.specs.Level.{inRange, levelAt, levelCost, wordDistance, Least}
 use Rattle.rules.specs.Guard.{guardOf}
-use Rattle.laws.specs.Bits.{bit-lt-two}
+use Rattle.laws.specs.Bits.{bit-zero, bit-pow-same, bit-pow-other}
+use Rattle.laws.specs.Sums.{sum-zero, sum-single}
 use Rattle.laws.specs.Weight.{weight-single}
 use Rattle.laws.specs.Permitted.{permitted-single}
 use Rattle.laws.specs.Guard.{guard-fewest}
-use Rattle.laws.specs.Margin.{margin, level-apart}
+use Rattle.laws.specs.Margin.{totalMoved, level-margin}
 use Rattle.laws.specs.Tight.{halfwayLevels, halfway-length, halfway-range, halfway-moved, halfway-least}
 
--- how far the levels are from the ideal levels of the codeword of s, all slots together
-abbrev pub totalMoved : ℕ → List ℤ → ℕ → ℕ
-totalMoved n levels s = sumBelow (2 ^ n) (λ i. gap (levelAt levels i) (bit (codeword n s) i))
+no-bit : (t : Bool) (a : ℕ) → cond t (0 * a) 0 ≡ 0
+no-bit true a = omega arith
+no-bit false a = refl
+
+gather-zero : (n mask : ℕ) → gather n mask 0 ≡ 0
+unfolding gather
+gather-zero n mask = sum-zero (2 ^ n) (λ i h. rw (bit-zero i) (no-bit (unfrozen mask i) (2 ^ place mask i)))
+
+gather-single : (n mask j : ℕ) → j < 2 ^ n → unfrozen mask j ≡ true → gather n mask (2 ^ j) ≡ 2 ^ place mask j
+unfolding gather
+gather-single n mask j l u =
+    sum-single (2 ^ n) j l (λ i h z. rw (bit-pow-other j i z) (no-bit (unfrozen mask i) (2 ^ place mask i))) ∙ rw (u, bit-pow-same j) (omega arith)
 
 module _ (n mask g s : ℕ) (levels : List ℤ) (given : guardOf n mask ≡ some g) (allowed : permitted n mask s ≡ true) (under : totalMoved n levels s < g) where
   farther : (e : ℕ) → permitted n mask e ≡ true → e ≢ s → wordDistance n (levelCost levels) s < wordDistance n (levelCost levels) e
-  farther e p z =
-      omega (arith, margin n mask g given (levelCost levels) (λ i. gap (levelAt levels i) (bit (codeword n s) i)) s e allowed p z
-        (λ i h b. level-apart (levelAt levels i) (bit (codeword n s) i) b (bit-lt-two (codeword n s) i)))
+  farther e p z = omega (arith, level-margin n mask g given levels s e allowed p z)
 
   -- levels moved from a permitted word by a total below the guard: that word is the least word
   pub below-guard : Least n mask (levelCost levels) s
   below-guard = record {
-      allowed = allowed;
-      nearest = λ e p. near e p (ℕ-discrete e s);
-      smallest = λ e p q. small e p q (ℕ-discrete e s) }
+    allowed = allowed;
+    nearest = λ e p. near e p (ℕ-discrete e s);
+    smallest = λ e p q. small e p q (ℕ-discrete e s);
+  }
     where
       near : (e : ℕ) → permitted n mask e ≡ true → Dec (e ≡ s) → wordDistance n (levelCost levels) s ≤ wordDistance n (levelCost levels) e
       near e p (yes q) = rw q (le-refl (wordDistance n (levelCost levels) s))
@@ -55,12 +63,12 @@ module _ (n mask g s : ℕ) (levels : List ℤ) (given : guardOf n mask ≡ some
       go (yes q) = q
       go (no z) = absurd (omega (arith, r .nearest s allowed, farther d (r .allowed) z))
 
--- a permitted word other than 0, and levels in range moved from it by the guard, at which word 0 is the least word
+-- a permitted word, and levels in range moved from it by the guard, at which word 0 is the least word, with another message
 pub record LostAtGuard (n mask g : ℕ) : Type 0 where
   pub sent : ℕ
   pub levels : List ℤ
   pub allowed : permitted n mask sent ≡ true
-  pub other : sent ≢ 0
+  pub other : gather n mask sent ≢ gather n mask 0
   pub long : length levels ≡ 2 ^ n
   pub ranged : (i : ℕ) → i < 2 ^ n → inRange (levelAt levels i) ≡ true
   pub moved : totalMoved n levels sent ≡ g
@@ -76,8 +84,9 @@ at-guard n mask g e =
       sent = 2 ^ j;
       levels = halfwayLevels n x;
       allowed = permitted-single n mask j (r .2 .below) (r .2 .passes);
-      other = λ z. omega (arith, pow-pos j);
+      other = λ z. omega (arith, pow-pos (place mask j), gather-single n mask j (r .2 .below) (r .2 .passes), gather-zero n mask);
       long = halfway-length n x;
       ranged = halfway-range n x;
       moved = halfway-moved n x ∙ ap (λ (y : ℕ). 256 * y) (weight-single n j (r .2 .below) ∙ ap (λ (y : ℕ). 2 ^ y) (r .2 .value)) ∙ sym (r .1);
-      least = halfway-least n x mask }
+      least = halfway-least n x mask;
+    }
