@@ -1,7 +1,7 @@
 // Slot costs: the squares of a level's distances from both ideal levels, in unsigned numbers.
 const LIMIT: i32 = 1024;
 
-pub struct Costs {
+pub struct SlotCosts {
     pub zero: u32,
     pub one: u32,
 }
@@ -31,7 +31,7 @@ fn apart(a: u32, b: u32) -> u32 {
 }
 
 // The costs of bit 0 and of bit 1.
-pub(crate) fn costs(level: i32) -> Costs {
+pub(crate) fn costs(level: i32) -> SlotCosts {
     let shifted = (level + LIMIT) as u32;
-    Costs { zero: square(apart(shifted, 768)), one: square(apart(shifted, 1280)) }
+    SlotCosts { zero: square(apart(shifted, 768)), one: square(apart(shifted, 1280)) }
 }

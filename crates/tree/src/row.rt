@@ -1,6 +1,6 @@
 // Sorted rows: for each group its patterns with their branch distances, in order, whole.
 // An entry is the distance times 256 plus the pattern, so that the order of numbers is the order of candidates.
-use cost::costs;
+use crate::cost::costs;
 
 // Whether the next entry of the first half goes before that of the second.
 fn first_goes(from: &[u64], a: usize, b: usize, m: usize, zero: u64, one: u64) -> bool {

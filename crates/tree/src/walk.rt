@@ -1,5 +1,5 @@
 // The walk: depth-first over the levels of the tree, the best word by value.
-use seat::unseated;
+use crate::seat::unseated;
 use word::Word;
 
 pub struct State {
