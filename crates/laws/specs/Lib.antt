@@ -1,1 +1,3 @@
 pub mod Answers
+pub mod BranchAndBound
+pub mod Allowance
