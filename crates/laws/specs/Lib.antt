@@ -1,3 +1,5 @@
 pub mod Answers
+pub mod Sums
+pub mod Bits
 pub mod BranchAndBound
 pub mod Allowance

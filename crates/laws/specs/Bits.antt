@@ -1,0 +1,144 @@
+-- Laws of `bit` by index: numbers with equal bits are equal, and what each operation does to the bits.
+use Prim.Native.Nat.{ℕ, zero, suc, _+_, _*_, _/_, _%_, _^_, _≤_, _<_, min, max}
+use mathlib.Core.Path.{_≡_, sym, ap, _∙_}
+use mathlib.Core.Logic.{_≢_}
+use mathlib.Core.Bool.{true}
+use native.Mathlib.Nat.{add-comm, le-dest, div-one, zero-div, div-eq-of-lt, div-self, mod-eq-of-lt, le-of-suc-le-suc, mod-self, lt-suc-self, one-mul, mod-lt, two-pow-succ, mul-le-mul-right, not-suc-le-zero}
+use native.Mathlib.Numerals.{one-add}
+use native.Mathlib.Decide.{ℕ-discrete, decLt}
+use native.Mathlib.Omega.{arith}
+use lib.Pow.{pow-pos, pow-mono, pow-lt, shr-shr, field, mod-mod-pow, high, low}
+use lib.Bits.{bitAnd, bitOr, bitXor, and-shr, or-shr, xor-shr, and-step, or-step, xor-add-and, xor-disjoint, and-self, and-le-r}
+use borrow.Author.Tests.{eqb-true, eq-eqb}
+use Rattle.rules.specs.Below.{sumBelow}
+use Rattle.rules.specs.Word.{bit, covers}
+
+-- a bit is 0 or 1
+pub bit-lt-two : (w i : ℕ) → bit w i < 2
+bit-lt-two w i = omega arith
+
+-- 0 has no one bit
+pub bit-zero : (i : ℕ) → bit 0 i ≡ 0
+bit-zero i = rw (zero-div (2 ^ i))
+
+-- the bits of w shifted down
+pub bit-div : (w k i : ℕ) → bit (w / 2 ^ k) i ≡ bit w (k + i)
+bit-div w k i = ap (λ (x : ℕ). x % 2) (shr-shr w k i)
+
+-- no one bit stands beyond a number's size
+pub bit-beyond : {w k i : ℕ} → w < 2 ^ k → k ≤ i → bit w i ≡ 0
+bit-beyond {w} {k} {i} h l = rw (div-eq-of-lt {n = w} {m = 2 ^ i} (omega (arith, pow-mono l)))
+
+-- the low k bits of w are its own
+pub bit-mod : (w k i : ℕ) → i < k → bit (w % 2 ^ k) i ≡ bit w i
+bit-mod w k i h =
+    let r = le-dest h in
+    let e : k ≡ (r .0 + 1) + i = omega (arith, r .1) in
+    rw (e, field w (r .0 + 1) i, mod-mod-pow (w / 2 ^ i) (r .0) 1)
+
+-- and none beyond
+pub bit-mod-beyond : (w k i : ℕ) → k ≤ i → bit (w % 2 ^ k) i ≡ 0
+bit-mod-beyond w k i l = bit-beyond (mod-lt w (pow-pos k)) l
+
+bit-half : (w i : ℕ) → bit (w / 2) i ≡ bit w (suc i)
+bit-half w i = bit-div w 1 i ∙ ap (bit w) (one-add i)
+
+lt-two-pow : (n : ℕ) → n < 2 ^ n
+lt-two-pow zero = pow-pos 0
+lt-two-pow (suc n) = omega (arith, lt-two-pow n, two-pow-succ n)
+
+-- numbers of k bits with the same bits are equal
+pub bit-ext-below : (k : ℕ) {a b : ℕ} → a < 2 ^ k → b < 2 ^ k → ((i : ℕ) → i < k → bit a i ≡ bit b i) → a ≡ b
+bit-ext-below zero ha hb h = omega arith
+bit-ext-below (suc k) {a} {b} ha hb h =
+    let high : a / 2 ≡ b / 2 = bit-ext-below k (omega (arith, two-pow-succ k)) (omega (arith, two-pow-succ k)) (λ i l. bit-half a i ∙ h (suc i) (omega arith) ∙ sym (bit-half b i)) in
+    let low : a % 2 ≡ b % 2 = rw (← div-one a, ← div-one b) (h 0 (omega arith)) in
+    omega arith
+
+-- numbers with the same bits are equal
+pub bit-ext : {a b : ℕ} → ((i : ℕ) → bit a i ≡ bit b i) → a ≡ b
+bit-ext {a} {b} h =
+    bit-ext-below (a + b) (omega (arith, lt-two-pow (a + b))) (omega (arith, lt-two-pow (a + b))) (λ i l. h i)
+
+-- the bits of an exclusive or
+pub bit-xor : (a b i : ℕ) → bit (bitXor a b) i ≡ (bit a i + bit b i) % 2
+bit-xor a b i = rw xor-shr (omega (arith, xor-add-and (a / 2 ^ i) (b / 2 ^ i)))
+
+-- the bits of an and
+pub bit-and : (a b i : ℕ) → bit (bitAnd a b) i ≡ min (bit a i) (bit b i)
+bit-and a b i = rw and-shr (omega (arith, and-step (a / 2 ^ i) (b / 2 ^ i)))
+
+-- the bits of an or
+pub bit-or : (a b i : ℕ) → bit (bitOr a b) i ≡ max (bit a i) (bit b i)
+bit-or a b i = rw or-shr (omega (arith, or-step (a / 2 ^ i) (b / 2 ^ i)))
+
+-- the bit of a power of two
+pub bit-pow-same : (k : ℕ) → bit (2 ^ k) k ≡ 1
+bit-pow-same k = rw (div-self {n = 2 ^ k} (pow-pos k))
+
+-- and no other one
+pub bit-pow-other : (k i : ℕ) → i ≢ k → bit (2 ^ k) i ≡ 0
+bit-pow-other k i n = go (decLt i k)
+  where
+    go : Dec (i < k) → bit (2 ^ k) i ≡ 0
+    go (yes l) = sym (bit-mod (2 ^ k) k i l) ∙ rw (mod-self (2 ^ k)) (bit-zero i)
+    go (no g) = bit-beyond (pow-lt (lt-suc-self k)) (omega arith)
+
+-- where no bit is one in both, the bits of a sum are those of its parts
+pub bit-add : (a b : ℕ) → ((k : ℕ) → bit a k + bit b k ≤ 1) → (i : ℕ) → bit (a + b) i ≡ bit a i + bit b i
+bit-add a b h i =
+    let apart : bitAnd a b ≡ 0 = bit-ext (λ k. bit-and a b k ∙ (omega (arith, h k)) ∙ sym (bit-zero k)) in
+    rw (← xor-disjoint a b apart, bit-xor a b i) (omega (arith, h i))
+
+-- the word of m given bits is below 2 ^ m
+pub word-lt : (m : ℕ) (b : ℕ → ℕ) → ((i : ℕ) → i < m → b i < 2) → sumBelow m (λ i. b i * 2 ^ i) < 2 ^ m
+unfolding sumBelow
+word-lt zero b h = pow-pos 0
+word-lt (suc m) b h =
+    omega (arith, word-lt m b (λ i l. h i (omega arith)), two-pow-succ m, mul-le-mul-right (2 ^ m) (le-of-suc-le-suc (h m (omega arith))), one-mul (2 ^ m))
+
+-- its bits are the given ones
+pub word-bit : (m : ℕ) (b : ℕ → ℕ) → ((i : ℕ) → i < m → b i < 2) → (i : ℕ) → i < m → bit (sumBelow m (λ j. b j * 2 ^ j)) i ≡ b i
+unfolding sumBelow
+word-bit zero b h i l = absurd (not-suc-le-zero l)
+word-bit (suc m) b h i l = go (ℕ-discrete i m) (word-bit m b (λ j k. h j (omega arith)) i)
+  where
+    rest : ℕ
+    rest = sumBelow m (λ j. b j * 2 ^ j)
+
+    small : rest < 2 ^ m
+    small = word-lt m b (λ j k. h j (omega arith))
+
+    go : Dec (i ≡ m) → (i < m → bit rest i ≡ b i) → bit (rest + b m * 2 ^ m) i ≡ b i
+    go (yes e) below = rw (e, add-comm rest (b m * 2 ^ m), high (b m) m small) (mod-eq-of-lt (h m (omega arith)))
+    go (no n) below =
+        sym (bit-mod (rest + b m * 2 ^ m) m i (omega arith)) ∙ rw (add-comm rest (b m * 2 ^ m), low (b m) m small) (below (omega arith))
+
+-- a word is the word of its bits
+pub word-self : (m w : ℕ) → w < 2 ^ m → sumBelow m (λ i. bit w i * 2 ^ i) ≡ w
+word-self m w h =
+    bit-ext-below m (word-lt m (bit w) (λ i l. bit-lt-two w i)) h (word-bit m (bit w) (λ i l. bit-lt-two w i))
+
+-- i is covered by j: each bit of i is at most j's
+pub covers-at : (i j : ℕ) → covers i j ≡ true → (k : ℕ) → bit i k ≤ bit j k
+covers-at i j e k = omega (arith, bit-and i j k, ap (λ (x : ℕ). bit x k) (eqb-true (bitAnd i j) i e))
+
+-- each bit of i is at most j's: i is covered by j
+pub covers-of : (i j : ℕ) → ((k : ℕ) → bit i k ≤ bit j k) → covers i j ≡ true
+covers-of i j h = eq-eqb (bitAnd i j) i (bit-ext (λ k. bit-and i j k ∙ omega (arith, h k)))
+
+-- a number covers itself
+pub covers-refl : (i : ℕ) → covers i i ≡ true
+covers-refl i = eq-eqb (bitAnd i i) i (and-self i)
+
+-- what covers a number that covers i covers i
+pub covers-trans : (i j k : ℕ) → covers i j ≡ true → covers j k ≡ true → covers i k ≡ true
+covers-trans i j k p q = covers-of i k (λ b. omega (arith, covers-at i j p b, covers-at j k q b))
+
+-- what covers i is not below i
+pub covers-le : (i j : ℕ) → covers i j ≡ true → i ≤ j
+covers-le i j e = omega (arith, and-le-r i j, eqb-true (bitAnd i j) i e)
+
+-- two numbers that cover one another are equal
+pub covers-antisym : (i j : ℕ) → covers i j ≡ true → covers j i ≡ true → i ≡ j
+covers-antisym i j p q = omega (arith, covers-le i j p, covers-le j i q)
