@@ -1,5 +1,9 @@
 pub mod Answers
 pub mod Sums
 pub mod Bits
+pub mod SumsMore
+pub mod SortedLists
 pub mod BranchAndBound
 pub mod Allowance
+pub mod Groups
+pub mod GroupSizes

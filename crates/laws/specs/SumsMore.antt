@@ -1,0 +1,58 @@
+-- Laws of `countBelow`: counts only grow, each smaller count is met once, a list is as long as its count, and a sum by pairs.
+use Prim.Native.Nat.{ℕ, zero, suc, _+_, _*_, _≤_, _<_}
+use mathlib.Core.Path.{_≡_, refl, sym, _∙_, ap}
+use mathlib.Core.Bool.{Bool, true, false, cond}
+use mathlib.Core.List.{[], _∷_, _++_}
+use native.Mathlib.Nat.{le-refl, le-dest, not-suc-le-zero}
+use native.Mathlib.Decide.{decLt}
+use native.Mathlib.Numerals.{add-one}
+use native.Mathlib.Omega.{arith}
+use lib.ListN.{length, length-append}
+use Rattle.rules.specs.Below.{sumBelow, countBelow, listBelow}
+use Rattle.laws.specs.Sums.{sum-cong, sum-split}
+
+-- a count up to a greater bound is not smaller
+pub count-le : (test : ℕ → Bool) {m k : ℕ} → m ≤ k → countBelow m test ≤ countBelow k test
+unfolding countBelow
+count-le test {m} {k} h = rw (← le-dest h .1, sum-split m (le-dest h .0) (λ i. cond (test i) 1 0)) (omega arith)
+
+-- a number that passes counts beyond those before it
+pub count-lt : (test : ℕ → Bool) {i m : ℕ} → i < m → test i ≡ true → countBelow i test < countBelow m test
+unfolding countBelow sumBelow
+count-lt test {i} {m} h t =
+    let e : countBelow (suc i) test ≡ countBelow i test + 1 = rw t in omega (arith, count-le test h)
+
+-- tests that agree below m count the same
+pub count-cong : (m : ℕ) (a b : ℕ → Bool) → ((i : ℕ) → i < m → a i ≡ b i) → countBelow m a ≡ countBelow m b
+unfolding countBelow
+count-cong m a b h = sum-cong m (λ i l. ap (λ (t : Bool). cond t 1 0) (h i l))
+
+-- each smaller count is that of a number that passes
+pub count-find : (m : ℕ) (test : ℕ → Bool) (k : ℕ) → k < countBelow m test → (i : ℕ) × (i < m) × (test i ≡ true) × (countBelow i test ≡ k)
+unfolding countBelow sumBelow
+count-find zero test k h = absurd (not-suc-le-zero h)
+count-find (suc m) test k h = go (test m) refl (decLt k (countBelow m test)) (count-find m test k)
+  where
+    go : (t : Bool) → test m ≡ t → Dec (k < countBelow m test)
+        → (k < countBelow m test → (i : ℕ) × (i < m) × (test i ≡ true) × (countBelow i test ≡ k))
+        → (i : ℕ) × (i < suc m) × (test i ≡ true) × (countBelow i test ≡ k)
+    go t e (yes l) below = let r = below l in (r .0, omega arith, r .2, r .3)
+    go true e (no n) below = let b : countBelow (suc m) test ≡ countBelow m test + 1 = rw e in (m, le-refl _, e, omega arith)
+    go false e (no n) below = let b : countBelow (suc m) test ≡ countBelow m test + 0 = rw e in absurd (n (omega arith))
+
+-- the list of the numbers that pass is as long as their count
+pub length-list : (m : ℕ) (test : ℕ → Bool) → length (listBelow m test) ≡ countBelow m test
+unfolding countBelow sumBelow listBelow
+length-list zero test = refl
+length-list (suc m) test = length-append (listBelow m test) (cond (test m) (m ∷ []) []) ∙ rw (length-list m test) (go (test m))
+  where
+    go : (t : Bool) → countBelow m test + length (cond t (m ∷ []) []) ≡ countBelow m test + cond t 1 0
+    go true = refl
+    go false = refl
+
+-- a sum over the even and odd numbers below 2 m, pair by pair
+pub sum-pairs : (m : ℕ) (f : ℕ → ℕ) → sumBelow (m * 2) f ≡ sumBelow m (λ i. f (i * 2) + f (i * 2 + 1))
+unfolding sumBelow
+sum-pairs zero f = refl
+sum-pairs (suc m) f =
+    let e : suc m * 2 ≡ suc (suc (m * 2)) = omega arith in rw (e, ← sum-pairs m f, add-one (m * 2)) (omega arith)
