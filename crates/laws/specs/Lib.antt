@@ -7,3 +7,4 @@ pub mod BranchAndBound
 pub mod Allowance
 pub mod Groups
 pub mod GroupSizes
+pub mod Least
