@@ -1,15 +1,16 @@
 -- Laws of `bit` by index: numbers with equal bits are equal, and what each operation does to the bits.
 use Prim.Native.Nat.{ℕ, zero, suc, _+_, _*_, _/_, _%_, _^_, _≤_, _<_, min, max}
-use mathlib.Core.Path.{_≡_, sym, ap, _∙_}
+use mathlib.Core.Path.{_≡_, refl, sym, ap, _∙_}
 use mathlib.Core.Logic.{_≢_}
-use mathlib.Core.Bool.{true}
+use mathlib.Core.Bool.{true, _&&_}
 use native.Mathlib.Nat.{add-comm, le-dest, div-one, zero-div, div-eq-of-lt, div-self, mod-eq-of-lt, le-of-suc-le-suc, mod-self, lt-suc-self, one-mul, mod-lt, two-pow-succ, mul-le-mul-right, not-suc-le-zero}
 use native.Mathlib.Numerals.{one-add}
 use native.Mathlib.Decide.{ℕ-discrete, decLt}
 use native.Mathlib.Omega.{arith}
 use lib.Pow.{pow-pos, pow-mono, pow-lt, shr-shr, field, mod-mod-pow, high, low}
-use lib.Bits.{bitAnd, bitOr, bitXor, and-shr, or-shr, xor-shr, and-step, or-step, xor-add-and, xor-disjoint, and-self, and-le-r}
-use borrow.Author.Tests.{eqb-true, eq-eqb}
+use lib.Bits.{bitAnd, bitOr, bitXor, and-shr, or-shr, xor-shr, and-step, or-step, xor-add-and, xor-disjoint, and-self, and-le-r, and-lt, and-block}
+use borrow.Author.Tests.{eqb-true, eq-eqb, ne-eqb}
+use lib.Dec.{eqb}
 use Rattle.rules.specs.Below.{sumBelow}
 use Rattle.rules.specs.Word.{bit, covers}
 
@@ -27,7 +28,15 @@ bit-div w k i = ap (λ (x : ℕ). x % 2) (shr-shr w k i)
 
 -- no one bit stands beyond a number's size
 pub bit-beyond : {w k i : ℕ} → w < 2 ^ k → k ≤ i → bit w i ≡ 0
-bit-beyond {w} {k} {i} h l = rw (div-eq-of-lt {n = w} {m = 2 ^ i} (omega (arith, pow-mono l)))
+bit-beyond {w = w} {k = k} {i = i} h l = rw (div-eq-of-lt {n = w} {m = 2 ^ i} (omega (arith, pow-mono l)))
+
+-- a one bit stands within a number's size
+pub bit-within : {w k i : ℕ} → w < 2 ^ k → bit w i ≡ 1 → i < k
+bit-within {w} {k} {i} h b = go (decLt i k)
+  where
+    go : Dec (i < k) → i < k
+    go (yes l) = l
+    go (no g) = absurd (omega (arith, bit-beyond {w = w} {k = k} {i = i} h (omega arith)))
 
 -- the low k bits of w are its own
 pub bit-mod : (w k i : ℕ) → i < k → bit (w % 2 ^ k) i ≡ bit w i
@@ -39,6 +48,14 @@ bit-mod w k i h =
 -- and none beyond
 pub bit-mod-beyond : (w k i : ℕ) → k ≤ i → bit (w % 2 ^ k) i ≡ 0
 bit-mod-beyond w k i l = bit-beyond (mod-lt w (pow-pos k)) l
+
+-- of a number of two parts, the low bits are the low part's
+pub bit-low : (hi k : ℕ) {lo : ℕ} → lo < 2 ^ k → (i : ℕ) → i < k → bit (hi * 2 ^ k + lo) i ≡ bit lo i
+bit-low hi k {lo} h i l = sym (bit-mod (hi * 2 ^ k + lo) k i l) ∙ ap (λ (x : ℕ). bit x i) (low hi k h)
+
+-- and the bits above are the high part's
+pub bit-high : (hi k : ℕ) {lo : ℕ} → lo < 2 ^ k → (i : ℕ) → bit (hi * 2 ^ k + lo) (k + i) ≡ bit hi i
+bit-high hi k {lo} h i = sym (bit-div (hi * 2 ^ k + lo) k i) ∙ ap (λ (x : ℕ). bit x i) (high hi k h)
 
 bit-half : (w i : ℕ) → bit (w / 2) i ≡ bit w (suc i)
 bit-half w i = bit-div w 1 i ∙ ap (bit w) (one-add i)
@@ -63,6 +80,10 @@ bit-ext {a} {b} h =
 -- the bits of an exclusive or
 pub bit-xor : (a b i : ℕ) → bit (bitXor a b) i ≡ (bit a i + bit b i) % 2
 bit-xor a b i = rw xor-shr (omega (arith, xor-add-and (a / 2 ^ i) (b / 2 ^ i)))
+
+-- an exclusive or with b twice changes nothing
+pub xor-twice : (a b : ℕ) → bitXor (bitXor a b) b ≡ a
+xor-twice a b = bit-ext (λ i. bit-xor (bitXor a b) b i ∙ ap (λ (x : ℕ). (x + bit b i) % 2) (bit-xor a b i) ∙ omega arith)
 
 -- the bits of an and
 pub bit-and : (a b i : ℕ) → bit (bitAnd a b) i ≡ min (bit a i) (bit b i)
@@ -111,13 +132,20 @@ word-bit (suc m) b h i l = go (ℕ-discrete i m) (word-bit m b (λ j k. h j (ome
 
     go : Dec (i ≡ m) → (i < m → bit rest i ≡ b i) → bit (rest + b m * 2 ^ m) i ≡ b i
     go (yes e) below = rw (e, add-comm rest (b m * 2 ^ m), high (b m) m small) (mod-eq-of-lt (h m (omega arith)))
-    go (no n) below =
-        sym (bit-mod (rest + b m * 2 ^ m) m i (omega arith)) ∙ rw (add-comm rest (b m * 2 ^ m), low (b m) m small) (below (omega arith))
+    go (no n) below = rw (add-comm rest (b m * 2 ^ m)) (bit-low (b m) m small i (omega arith) ∙ below (omega arith))
 
 -- a word is the word of its bits
 pub word-self : (m w : ℕ) → w < 2 ^ m → sumBelow m (λ i. bit w i * 2 ^ i) ≡ w
 word-self m w h =
     bit-ext-below m (word-lt m (bit w) (λ i l. bit-lt-two w i)) h (word-bit m (bit w) (λ i l. bit-lt-two w i))
+
+eqb-block : (k x a y r : ℕ) → y < 2 ^ k → r < 2 ^ k → eqb (x * 2 ^ k + y) (a * 2 ^ k + r) ≡ (eqb x a && eqb y r)
+eqb-block k x a y r hy hr = go (ℕ-discrete x a) (ℕ-discrete y r)
+  where
+    go : Dec (x ≡ a) → Dec (y ≡ r) → eqb (x * 2 ^ k + y) (a * 2 ^ k + r) ≡ (eqb x a && eqb y r)
+    go (yes p) (yes q) = rw (p, q, eq-eqb a a refl, eq-eqb r r refl) (eq-eqb (a * 2 ^ k + r) (a * 2 ^ k + r) refl)
+    go (no p) d = rw (ne-eqb x a p) (ne-eqb (x * 2 ^ k + y) (a * 2 ^ k + r) (λ e. p (sym (high x k hy) ∙ ap (λ (w : ℕ). w / 2 ^ k) e ∙ high a k hr)))
+    go (yes p) (no q) = rw (p, eq-eqb a a refl, ne-eqb y r q) (ne-eqb (a * 2 ^ k + y) (a * 2 ^ k + r) (λ e. q (omega arith)))
 
 -- i is covered by j: each bit of i is at most j's
 pub covers-at : (i j : ℕ) → covers i j ≡ true → (k : ℕ) → bit i k ≤ bit j k
@@ -142,3 +170,8 @@ covers-le i j e = omega (arith, and-le-r i j, eqb-true (bitAnd i j) i e)
 -- two numbers that cover one another are equal
 pub covers-antisym : (i j : ℕ) → covers i j ≡ true → covers j i ≡ true → i ≡ j
 covers-antisym i j p q = omega (arith, covers-le i j p, covers-le j i q)
+
+-- the k low bits and those above are covered apart
+pub covers-block : (k a b r s : ℕ) → r < 2 ^ k → s < 2 ^ k
+    → covers (a * 2 ^ k + r) (b * 2 ^ k + s) ≡ (covers a b && covers r s)
+covers-block k a b r s hr hs = rw (and-block k a b r s hr hs) (eqb-block k (bitAnd a b) a (bitAnd r s) r (and-lt k r s hr hs) hr)

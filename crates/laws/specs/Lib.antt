@@ -8,3 +8,5 @@ pub mod Allowance
 pub mod Groups
 pub mod GroupSizes
 pub mod Least
+pub mod Matrix
+pub mod Weight
