@@ -10,3 +10,4 @@ pub mod GroupSizes
 pub mod Least
 pub mod Matrix
 pub mod Weight
+pub mod Fillings

@@ -1,8 +1,8 @@
 -- Rising lists over any order: a list in strictly rising order is given by its members.
 use Prim.Native.Nat.{ℕ, zero, suc, _<_}
-use mathlib.Core.Path.{_≡_, refl, sym, _∙_, ap₂}
+use mathlib.Core.Path.{_≡_, refl, sym, _∙_, ap, ap₂}
 use mathlib.Core.Bool.{Bool, true, false, cond}
-use mathlib.Core.List.{List, [], _∷_, _++_, List·Memᴰ, List·Memᴰ·head, List·Memᴰ·tail, List·Memᴰ·not-nil, List·Memᴰ·cases-cons, List·Memᴰ·append-cases, List·Memᴰ·eq-of-singleton}
+use mathlib.Core.List.{List, [], _∷_, _++_, map, List·Memᴰ, List·Memᴰ·head, List·Memᴰ·tail, List·Memᴰ·not-nil, List·Memᴰ·cases-cons, List·Memᴰ·append-cases, List·Memᴰ·eq-of-singleton}
 use mathlib.Core.Logic.{_⊎_, inl, inr, ⊎-elim}
 use Rattle.rules.specs.Below.{listBelow}
 use Rattle.laws.specs.Sums.{mem-at}
@@ -11,6 +11,17 @@ use Rattle.laws.specs.Sums.{mem-at}
 unfoldable pub Rising : {A : Type 0} → (A → A → Type 0) → List A → Type 0
 Rising R [] = Unit {0}
 Rising {A} R (a ∷ xs) = ((b : A) → List·Memᴰ b xs → R a b) × Rising R xs
+
+-- a member of a mapped list comes from a member
+pub mem-map-at : {A B : Type 0} (f : A → B) (xs : List A) (b : B) → List·Memᴰ b (map f xs) → (a : A) × List·Memᴰ a xs × (b ≡ f a)
+mem-map-at f [] b m = absurd (List·Memᴰ·not-nil m)
+mem-map-at {A} {B} f (x ∷ xs) b m = ⊎-elim (λ (e : b ≡ f x). (x, List·Memᴰ·head refl, e))
+    (λ i. let r = mem-map-at f xs b i in (r .0, List·Memᴰ·tail (r .1), r .2)) (List·Memᴰ·cases-cons m)
+
+-- a member's image is a member of the mapped list
+pub mem-map-of : {A B : Type 0} (f : A → B) (xs : List A) (a : A) → List·Memᴰ a xs → List·Memᴰ (f a) (map f xs)
+mem-map-of f xs a (List·Memᴰ·head e) = List·Memᴰ·head (ap f e)
+mem-map-of f xs a (List·Memᴰ·tail {xs = ys} m) = List·Memᴰ·tail (mem-map-of f ys a m)
 
 module _ {A : Type 0} (R : A → A → Type 0) where
   -- two rising lists, each element of the first before every one of the second
