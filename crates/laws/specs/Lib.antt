@@ -11,3 +11,4 @@ pub mod Least
 pub mod Matrix
 pub mod Weight
 pub mod Fillings
+pub mod Candidates
