@@ -12,3 +12,5 @@ pub mod Matrix
 pub mod Weight
 pub mod Fillings
 pub mod Candidates
+pub mod BitsMore
+pub mod Branches
