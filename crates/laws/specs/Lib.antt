@@ -14,3 +14,5 @@ pub mod Fillings
 pub mod Candidates
 pub mod BitsMore
 pub mod Branches
+pub mod Completions
+pub mod LeastByWalk
