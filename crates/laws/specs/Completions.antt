@@ -35,8 +35,8 @@ pub record Completes (n mask folding k d e : ℕ) : Type 0 where
   pub allowed : Permitted n mask e
   pub agrees : (j : ℕ) → j < 2 ^ n → k ≤ groupNo folding j → bit e j ≡ bit d j
 
--- a one of a filling of group k
-fill-zero : (n mask folding k f j : ℕ) → Fills mask (group n folding k) f → groupNo folding j ≢ k → bit f j ≡ 0
+-- a filling of group k has no one outside it
+pub fill-zero : (n mask folding k f j : ℕ) → Fills mask (group n folding k) f → groupNo folding j ≢ k → bit f j ≡ 0
 fill-zero n mask folding k f j h ne = go (ℕ-discrete (bit f j) 0)
   where
     go : Dec (bit f j ≡ 0) → bit f j ≡ 0

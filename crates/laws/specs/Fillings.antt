@@ -10,7 +10,7 @@ use lib.Bits.{bitAnd, bitXor, xor-add-and}
 use Rattle.rules.specs.Word.{bit, unfrozen}
 use Rattle.rules.specs.Walk.{fillings}
 use Rattle.laws.specs.Bits.{bit-lt-two, bit-zero, bit-ext, bit-and, bit-xor, bit-add, bit-pow-same, bit-pow-other}
-use Rattle.laws.specs.SortedLists.{Rising, mem-map-at, mem-map-of}
+use Rattle.laws.specs.SortedLists.{Rising, rising-append, rising-map, mem-map-at, mem-map-of}
 
 -- a one bit of f stands at an unfrozen index of the list
 pub record Fills (mask : ℕ) (is : List ℕ) (f : ℕ) : Type 0 where
@@ -68,6 +68,15 @@ fills-fewer mask is f g le h = record {
   inside = λ j b. h .inside j (λ z. b (omega (arith, le j)));
   free = λ j b. h .free j (λ z. b (omega (arith, le j))) }
 
+-- a filling of later indices has a zero at an earlier one
+fills-before : (mask i : ℕ) (is : List ℕ) (f : ℕ) → Rising _<_ (i ∷ is) → Fills mask is f → bit f i ≡ 0
+unfolding Rising
+fills-before mask i is f r h = go (ℕ-discrete (bit f i) 0)
+  where
+    go : Dec (bit f i ≡ 0) → bit f i ≡ 0
+    go (yes z) = z
+    go (no b) = absurd (omega (arith, r .0 i (h .inside i b)))
+
 -- a filling of a rising list of indices
 pub fillings-at : (mask : ℕ) (is : List ℕ) → Rising _<_ is → (f : ℕ) → List·Memᴰ f (fillings mask is) → Fills mask is f
 unfolding Rising fillings
@@ -76,18 +85,34 @@ fillings-at mask [] r f m =
     record { inside = λ j b. absurd (b (rw z (bit-zero j))); free = λ j b. absurd (b (rw z (bit-zero j))) }
 fillings-at mask (i ∷ is) r f m = go (unfrozen mask i) refl m (fillings-at mask is (r .1))
   where
-    clear : (g : ℕ) → Fills mask is g → Dec (bit g i ≡ 0) → bit g i ≡ 0
-    clear g h (yes z) = z
-    clear g h (no b) = absurd (omega (arith, r .0 i (h .inside i b)))
-
     go : (t : Bool) → unfrozen mask i ≡ t
         → List·Memᴰ f (cond t (fillings mask is ++ map (λ x. x + 2 ^ i) (fillings mask is)) (fillings mask is))
         → ((g : ℕ) → List·Memᴰ g (fillings mask is) → Fills mask is g) → Fills mask (i ∷ is) f
     go false t m below = fills-cons mask i is f (below f m)
     go true t m below = ⊎-elim (λ m′. fills-cons mask i is f (below f m′))
         (λ m′. let x = mem-map-at (λ x. x + 2 ^ i) (fillings mask is) f m′ in
-          rw (x .2) (fills-put mask i is (x .0) (clear (x .0) (below (x .0) (x .1)) (ℕ-discrete _ 0)) t (below (x .0) (x .1))))
+          rw (x .2) (fills-put mask i is (x .0) (fills-before mask i is (x .0) r (below (x .0) (x .1))) t (below (x .0) (x .1))))
         (List·Memᴰ·append-cases (fillings mask is) m)
+
+-- the fillings of a rising list of indices are different
+pub fillings-differ : (mask : ℕ) (is : List ℕ) → Rising _<_ is → Rising (λ (f g : ℕ). f ≢ g) (fillings mask is)
+unfolding Rising fillings
+fillings-differ mask [] r = (λ b m. absurd (List·Memᴰ·not-nil m), tt)
+fillings-differ mask (i ∷ is) r = go (unfrozen mask i) (fillings-differ mask is (r .1))
+  where
+    zero-at : (g : ℕ) → List·Memᴰ g (fillings mask is) → bit g i ≡ 0
+    zero-at g m = fills-before mask i is g r (fillings-at mask is (r .1) g m)
+
+    apart : (f g : ℕ) → List·Memᴰ f (fillings mask is) → List·Memᴰ g (map (λ x. x + 2 ^ i) (fillings mask is)) → f ≢ g
+    apart f g m k e =
+        let x = mem-map-at (λ y. y + 2 ^ i) (fillings mask is) g k in
+        omega (arith, zero-at f m, put-bit (x .0) i (zero-at (x .0) (x .1)) i, bit-pow-same i, ap (λ (y : ℕ). bit y i) (e ∙ x .2))
+
+    go : (t : Bool) → Rising (λ (f g : ℕ). f ≢ g) (fillings mask is)
+        → Rising (λ (f g : ℕ). f ≢ g) (cond t (fillings mask is ++ map (λ x. x + 2 ^ i) (fillings mask is)) (fillings mask is))
+    go false below = below
+    go true below = rising-append (λ (f g : ℕ). f ≢ g) (fillings mask is) (map (λ x. x + 2 ^ i) (fillings mask is)) below
+        (rising-map (λ (f g : ℕ). f ≢ g) (λ (f g : ℕ). f ≢ g) (λ x. x + 2 ^ i) (fillings mask is) (λ a b _ _ ne e. ne (omega arith)) below) apart
 
 -- each word whose ones stand at unfrozen indices of the list is a filling
 pub fillings-of : (mask : ℕ) (is : List ℕ) (f : ℕ) → Fills mask is f → List·Memᴰ f (fillings mask is)

@@ -16,3 +16,4 @@ pub mod BitsMore
 pub mod Branches
 pub mod Completions
 pub mod LeastByWalk
+pub mod Patterns

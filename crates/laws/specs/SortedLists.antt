@@ -23,6 +23,15 @@ pub mem-map-of : {A B : Type 0} (f : A → B) (xs : List A) (a : A) → List·Me
 mem-map-of f xs a (List·Memᴰ·head e) = List·Memᴰ·head (ap f e)
 mem-map-of f xs a (List·Memᴰ·tail {xs = ys} m) = List·Memᴰ·tail (mem-map-of f ys a m)
 
+-- a mapped list rises where the map carries the order of its members over
+pub rising-map : {A B : Type 0} (R : A → A → Type 0) (S : B → B → Type 0) (f : A → B) (xs : List A)
+    → ((a b : A) → List·Memᴰ a xs → List·Memᴰ b xs → R a b → S (f a) (f b)) → Rising R xs → Rising S (map f xs)
+unfolding Rising
+rising-map R S f [] h r = tt
+rising-map {A} {B} R S f (x ∷ xs) h r =
+    ( λ b m. let i = mem-map-at f xs b m in rw (i .2) (h x (i .0) (List·Memᴰ·head refl) (List·Memᴰ·tail (i .1)) (r .0 (i .0) (i .1)))
+    , rising-map R S f xs (λ a b i j. h a b (List·Memᴰ·tail i) (List·Memᴰ·tail j)) (r .1))
+
 module _ {A : Type 0} (R : A → A → Type 0) where
   -- two rising lists, each element of the first before every one of the second
   pub rising-append : (xs ys : List A) → Rising R xs → Rising R ys → ((a b : A) → List·Memᴰ a xs → List·Memᴰ b ys → R a b) → Rising R (xs ++ ys)
