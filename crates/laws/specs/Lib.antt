@@ -17,3 +17,9 @@ pub mod Branches
 pub mod Completions
 pub mod LeastByWalk
 pub mod Patterns
+pub mod Guard
+pub mod Permitted
+pub mod Margin
+pub mod Each
+pub mod Tight
+pub mod Demand3

@@ -6,13 +6,13 @@ use native.Mathlib.Nat.{two-pow-succ, mod-lt, le-trans, le-of-eq, le-refl, le-of
 use native.Mathlib.Decide.{decLt, ℕ-discrete}
 use native.Mathlib.Omega.{arith}
 use lib.Arith.{lt-one}
-use lib.Pow.{pow-pos, pow-mono, pow-add, pow-lt, shr-lt, high, low, split}
+use lib.Pow.{pow-pos, pow-add, pow-lt, shr-lt, split}
 use lib.Bits.{bitXor, xor-zero-l, xor-zero-r}
 use lib.Count.{ones, onesIn, ones-cat}
 use Rattle.rules.specs.Below.{sumBelow}
 use Rattle.rules.specs.Word.{bit, codeBit, codeword}
 use Rattle.laws.specs.Sums.{sum-cong, sum-zero, sum-add, sum-le, sum-split}
-use Rattle.laws.specs.Bits.{bit-lt-two, bit-zero, bit-div, bit-beyond, bit-within, bit-mod, bit-low, bit-high, bit-xor, xor-twice}
+use Rattle.laws.specs.Bits.{bit-zero, bit-div, bit-within, bit-mod, bit-low, bit-high, bit-xor, xor-twice}
 use Rattle.laws.specs.Matrix.{codeword-lt, codeword-xor, codeword-zero, codeword-halves}
 
 -- how many of the 2 ^ n slots of x are one
@@ -32,8 +32,8 @@ weight-halves : (n d : ℕ) → weight (suc n) (codeword (suc n) d)
     ≡ weight n (codeword n (bitXor (d % 2 ^ (2 ^ n)) (d / 2 ^ (2 ^ n)))) + weight n (codeword n (d / 2 ^ (2 ^ n)))
 weight-halves n d = rw (two-pow-succ n, codeword-halves n d, sum-split)
     (ap₂ (λ (x y : ℕ). x + y)
-      (sum-cong (2 ^ n) (bit-low H (2 ^ n) small))
-      (sum-cong (2 ^ n) (λ i l. bit-high H (2 ^ n) small i)))
+    (sum-cong (2 ^ n) (bit-low H (2 ^ n) small))
+    (sum-cong (2 ^ n) (λ i l. bit-high H (2 ^ n) small i)))
   where
     H : ℕ
     H = codeword n (d / 2 ^ (2 ^ n))
@@ -114,14 +114,21 @@ weight-single (suc n) j l = go (decLt j (2 ^ n)) (weight-single n)
         let whole : 2 ^ (2 ^ n + k) ≡ 2 ^ (2 ^ n) * 2 ^ k = pow-add 2 (2 ^ n) k in
         let high : hi n (2 ^ (2 ^ n + k)) ≡ 2 ^ k = rw whole (mul-div-right (2 ^ k) (pow-pos (2 ^ n))) in
         rw (weight-upper n (2 ^ (2 ^ n + k)) (rw whole (mul-mod-right (2 ^ (2 ^ n)) (2 ^ k))), high, below k small, ones-upper n k small)
-          (sym (two-pow-succ (ones k)))
+        (sym (two-pow-succ (ones k)))
 
     go : Dec (j < 2 ^ n) → ((k : ℕ) → k < 2 ^ n → weight n (codeword n (2 ^ k)) ≡ 2 ^ ones k)
         → weight (suc n) (codeword (suc n) (2 ^ j)) ≡ 2 ^ ones j
     go (yes k) below =
-        rw (weight-halves n (2 ^ j), div-eq-of-lt (pow-lt k), mod-eq-of-lt (pow-lt k), xor-zero-r (2 ^ j), codeword-zero n,
-          sum-zero (2 ^ n) (λ i h. bit-zero i), add-zero (weight n (codeword n (2 ^ j)))) (below j k)
+        rw (
+          weight-halves n (2 ^ j),
+          div-eq-of-lt (pow-lt k),
+          mod-eq-of-lt (pow-lt k),
+          xor-zero-r (2 ^ j),
+          codeword-zero n,
+          sum-zero (2 ^ n) (λ i h. bit-zero i),
+          add-zero (weight n (codeword n (2 ^ j))),
+        ) (below j k)
     go (no g) below =
         let r = le-dest {n = 2 ^ n} {m = j} (omega arith) in
         subst (λ (x : ℕ). weight (suc n) (codeword (suc n) (2 ^ x)) ≡ 2 ^ ones x) (r .1)
-          (upper (r .0) (omega (arith, r .1, two-pow-succ n)) below)
+        (upper (r .0) (omega (arith, r .1, two-pow-succ n)) below)
