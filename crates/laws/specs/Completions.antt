@@ -20,19 +20,19 @@ use Rattle.laws.specs.BitsMore.{small-of-bits, picked, picked-in, picked
 use Rattle.laws.specs.BranchAndBound.{Leaf, Under}
 use Rattle.laws.specs.Groups.{codeBit-depends}
 use Rattle.laws.specs.GroupSizes.{groupNo-below, group-at, group-of}
-use Rattle.laws.specs.Least.{Permitted, permitted-at, permitted-of, zero-permitted}
+use Rattle.laws.specs.Permitted.{permitted-lt, permitted-at, permitted-of, permitted-zero}
 use Rattle.laws.specs.Fillings.{Fills}
 use Rattle.laws.specs.Candidates.{candidates-at, candidates-of}
 use Rattle.laws.specs.Branches.{branch-cong, costLeft, left-zero, left-step, left-all}
 
 -- the word of a node with k levels left: permitted, with no one in a group below k
 pub record Node (n mask folding k d : ℕ) : Type 0 where
-  pub allowed : Permitted n mask d
+  pub allowed : permitted n mask d ≡ true
   pub undecided : (j : ℕ) → j < 2 ^ n → groupNo folding j < k → bit d j ≡ 0
 
 -- a permitted word that agrees with d in the groups from k on
 pub record Completes (n mask folding k d e : ℕ) : Type 0 where
-  pub allowed : Permitted n mask e
+  pub allowed : permitted n mask e ≡ true
   pub agrees : (j : ℕ) → j < 2 ^ n → k ≤ groupNo folding j → bit e j ≡ bit d j
 
 -- a filling of group k has no one outside it
@@ -56,23 +56,18 @@ node-add n mask folding k d f v h = bit-add d f (λ j. go j (ℕ-discrete (bit f
 -- and makes the word of a node one level down
 pub node-down : (n mask folding k d f : ℕ) → Node n mask folding (suc k) d → Fills mask (group n folding k) f → Node n mask folding k (d + f)
 node-down n mask folding k d f v h = record {
-  allowed = record { small = small-of-bits (2 ^ n) (d + f) beyond; clear = clear };
+  allowed = permitted-of n mask (d + f) (small-of-bits (2 ^ n) (d + f) (λ j l. beyond j l (ℕ-discrete (bit f j) 0)))
+      (λ j b. free j b (ℕ-discrete (bit f j) 0));
   undecided = λ j l g. node-add n mask folding k d f v h j
       ∙ omega (arith, v .undecided j l (omega arith), fill-zero n mask folding k f j h (omega arith)) }
   where
-    beyond : (j : ℕ) → 2 ^ n ≤ j → bit (d + f) j ≡ 0
-    beyond j l = node-add n mask folding k d f v h j ∙ omega (arith, bit-beyond (v .allowed .small) l, outside (ℕ-discrete (bit f j) 0))
-      where
-        outside : Dec (bit f j ≡ 0) → bit f j ≡ 0
-        outside (yes z) = z
-        outside (no b) = absurd (omega (arith, group-at n folding k j (h .inside j b) .0))
+    beyond : (j : ℕ) → 2 ^ n ≤ j → Dec (bit f j ≡ 0) → bit (d + f) j ≡ 0
+    beyond j l (yes z) = node-add n mask folding k d f v h j ∙ omega (arith, bit-beyond (permitted-lt n mask d (v .allowed)) l)
+    beyond j l (no b) = absurd (omega (arith, group-at n folding k j (h .inside j b) .0))
 
-    clear : (j : ℕ) → j < 2 ^ n → unfrozen mask j ≡ false → bit (d + f) j ≡ 0
-    clear j l u = node-add n mask folding k d f v h j ∙ omega (arith, v .allowed .clear j l u, frozen (ℕ-discrete (bit f j) 0))
-      where
-        frozen : Dec (bit f j ≡ 0) → bit f j ≡ 0
-        frozen (yes z) = z
-        frozen (no b) = absurd (true≢false (sym (h .free j b) ∙ u))
+    free : (j : ℕ) → bit (d + f) j ≡ 1 → Dec (bit f j ≡ 0) → unfrozen mask j ≡ true
+    free j b (yes z) = permitted-at n mask d (v .allowed) j (omega (arith, node-add n mask folding k d f v h j))
+    free j b (no y) = h .free j y
 
 -- a candidate's branch is that of every completion of its word
 pub branch-final : (n mask : ℕ) (cost : ℕ → ℕ → ℕ) (folding k d e : ℕ) → Completes n mask folding k d e
@@ -101,14 +96,10 @@ part-at n folding k e j b = go (decLt j (2 ^ n)) (ℕ-discrete (groupNo folding 
     go (yes l) (no g) = absurd (b (picked-out (2 ^ n) _ e j (ne-eqb _ _ g)))
     go (no l) g = absurd (b (picked-beyond (2 ^ n) _ e j (omega arith)))
 
-part-fills : (n mask folding k e : ℕ) → Permitted n mask e → Fills mask (group n folding k) (part n folding k e)
+part-fills : (n mask folding k e : ℕ) → permitted n mask e ≡ true → Fills mask (group n folding k) (part n folding k e)
 part-fills n mask folding k e a = record {
   inside = λ j b. let r = part-at n folding k e j b in group-of n folding k j (r .0) (r .1);
-  free = λ j b. go j b (unfrozen mask j) refl }
-  where
-    go : (j : ℕ) → bit (part n folding k e) j ≢ 0 → (t : Bool) → unfrozen mask j ≡ t → t ≡ true
-    go j b true t = refl
-    go j b false t = let r = part-at n folding k e j b in absurd (b (r .2 ∙ a .clear j (r .0) t))
+  free = λ j b. permitted-at n mask e a j (omega (arith, part-at n folding k e j b .2, bit-lt-two e j)) }
 
 completes-down : (n mask folding k d e : ℕ) → Node n mask folding (suc k) d → Completes n mask folding (suc k) d e
     → Completes n mask folding k (d + part n folding k e) e
@@ -125,7 +116,7 @@ completes-down n mask folding k d e v h = record {
 module _ (n mask : ℕ) (cost : ℕ → ℕ → ℕ) (folding : ℕ) where
   -- the empty word is a node's at every level
   pub root : (k : ℕ) → Node n mask folding k 0
-  root k = record { allowed = permitted-at n mask 0 (zero-permitted n mask); undecided = λ j l g. bit-zero j }
+  root k = record { allowed = permitted-zero n mask; undecided = λ j l g. bit-zero j }
 
   -- a leaf below a node completes its word, at the partial distance and the cost left
   pub leaf-completes : (k p d q e : ℕ) → Node n mask folding k d → Leaf (candidates n mask cost folding) k p d q e
@@ -143,7 +134,7 @@ module _ (n mask : ℕ) (cost : ℕ → ℕ → ℕ) (folding : ℕ) where
   pub completion-leaf : (k p d e : ℕ) → Node n mask folding k d → Completes n mask folding k d e
       → Leaf (candidates n mask cost folding) k p d (p + costLeft n cost folding k e) e
   unfolding Leaf Under candidate
-  completion-leaf zero p d e v h = (omega (arith, left-zero n cost folding e), bit-ext-below (2 ^ n) (h .allowed .small) (v .allowed .small) (λ j l. h .agrees j l zero-le))
+  completion-leaf zero p d e v h = (omega (arith, left-zero n cost folding e), bit-ext-below (2 ^ n) (permitted-lt n mask e (h .allowed)) (permitted-lt n mask d (v .allowed)) (λ j l. h .agrees j l zero-le))
   completion-leaf (suc k) p d e v h =
       let f = part n folding k e in
       let fills : Fills mask (group n folding k) f = part-fills n mask folding k e (h .allowed) in
@@ -158,12 +149,12 @@ module _ (n mask : ℕ) (cost : ℕ → ℕ → ℕ) (folding : ℕ) where
       → (permitted n mask e ≡ true) × (q ≡ wordDistance n cost e)
   leaf-permitted fits q e l =
       let h = leaf-completes (groups n folding) 0 0 q e (root (groups n folding)) l in
-      (permitted-of n mask e (h .0 .allowed), h .1 ∙ zero-add _ ∙ left-all n cost folding fits e)
+      (h .0 .allowed, h .1 ∙ zero-add _ ∙ left-all n cost folding fits e)
 
   -- and every permitted word is a leaf
   pub permitted-leaf : folding < 2 ^ n → (e : ℕ) → permitted n mask e ≡ true
       → Leaf (candidates n mask cost folding) (groups n folding) 0 0 (wordDistance n cost e) e
   permitted-leaf fits e t = rw (zero-add _ ∙ left-all n cost folding fits e)
       at (completion-leaf (groups n folding) 0 0 e (root (groups n folding)) (record {
-        allowed = permitted-at n mask e t;
+        allowed = t;
         agrees = λ j l g. absurd (omega (arith, groupNo-below n folding fits j l)) }))

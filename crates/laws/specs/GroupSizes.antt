@@ -15,8 +15,8 @@ use lib.ListN.{length}
 use borrow.Author.Tests.{eq-eqb, ne-eqb, eqb-true}
 use Rattle.rules.specs.Below.{sumBelow, countBelow, listBelow}
 use Rattle.rules.specs.Folding.{smallest, groupNo, group, groups}
-use Rattle.laws.specs.Sums.{sum-cong, sum-const, sum-mul, sum-single, sum-swap, mem-at, mem-of}
-use Rattle.laws.specs.SumsMore.{count-lt, count-cong, count-find, length-list, sum-pairs}
+use Rattle.laws.specs.Sums.{sum-cong, sum-const, sum-mul, sum-single, sum-swap, count-lt, mem-at, mem-of}
+use Rattle.laws.specs.SumsMore.{count-cong, count-find, length-list, sum-pairs}
 use Rattle.laws.specs.SortedLists.{Rising, list-rising}
 use Rattle.laws.specs.Groups.{smallest-twice, smallest-same, groupNo-same}
 

@@ -11,8 +11,7 @@ use borrow.Author.Tests.{eq-eqb}
 use Rattle.rules.specs.Below.{countBelow}
 use Rattle.rules.specs.Word.{bit, covers, codeBit}
 use Rattle.rules.specs.Folding.{smallest, groupNo}
-use Rattle.laws.specs.Sums.{sum-cong}
-use Rattle.laws.specs.SumsMore.{count-le, count-lt}
+use Rattle.laws.specs.Sums.{sum-cong, count-mono, count-lt}
 use Rattle.laws.specs.Bits.{bit-lt-two, bit-ext, bit-and, bit-xor, covers-at, covers-of, covers-le}
 
 -- the smallest index of a group has the index's bits outside the folding alone
@@ -42,7 +41,7 @@ agree-of-smallest folding i j e k z =
 -- group numbers go as the smallest indices do
 pub groupNo-le : (folding i j : ℕ) → smallest folding i ≤ smallest folding j → groupNo folding i ≤ groupNo folding j
 unfolding groupNo
-groupNo-le folding i j h = count-le (λ k. eqb (smallest folding k) k) h
+groupNo-le folding i j h = count-mono (λ k. eqb (smallest folding k) k) h
 
 -- a greater smallest index has a greater number
 pub groupNo-lt : (folding i j : ℕ) → smallest folding i < smallest folding j → groupNo folding i < groupNo folding j

@@ -10,7 +10,8 @@ use Rattle.rules.specs.Walk.{candidates, walkOf}
 use Rattle.laws.specs.BranchAndBound.{AtMost, Leaf, best-good, best-from}
 use Rattle.laws.specs.Candidates.{candidates-ordered}
 use Rattle.laws.specs.Completions.{leaf-permitted, permitted-leaf}
-use Rattle.laws.specs.Least.{zero-permitted, least-of, least-word}
+use Rattle.laws.specs.Permitted.{permitted-zero}
+use Rattle.laws.specs.Least.{least-of, least-word}
 
 module _ (n mask : ℕ) (cost : ℕ → ℕ → ℕ) (folding : ℕ) (fits : folding < 2 ^ n) where
   -- what the walk has kept at the end is at most every permitted word
@@ -27,7 +28,7 @@ module _ (n mask : ℕ) (cost : ℕ → ℕ → ℕ) (folding : ℕ) (fits : fol
       go : (walkOf n mask cost folding .kept ≡ nothing)
           ⊎ ((q : ℕ) × (e : ℕ) × Leaf (candidates n mask cost folding) (groups n folding) 0 0 q e × (walkOf n mask cost folding .kept ≡ best q e))
           → (d : ℕ) × Least n mask cost d × (walkOf n mask cost folding .kept ≡ best (wordDistance n cost d) d)
-      go (inl e) = absurd (rw e at (walk-most 0 (zero-permitted n mask)))
+      go (inl e) = absurd (rw e at (walk-most 0 (permitted-zero n mask)))
       go (inr (q, d, l, e)) =
           let a = leaf-permitted n mask cost folding fits q d l in
           (d, least-of n mask cost d (a .0) (λ x t. rw (e, a .1) at (walk-most x t)), rw (← a .1) e)

@@ -11,6 +11,7 @@ use Rattle.rules.specs.Folding.{groupNo, group}
 use Rattle.rules.specs.Walk.{Candidate, fillings, pattern, candidate, candidates, inOrder}
 use Rattle.laws.specs.Bits.{bit-ext}
 use Rattle.laws.specs.Matrix.{codeword-bit, codeword-twice}
+use Rattle.laws.specs.Permitted.{permitted-lt}
 use Rattle.laws.specs.SortedLists.{Rising, rising-map, rising-unique}
 use Rattle.laws.specs.Groups.{codeBit-depends}
 use Rattle.laws.specs.GroupSizes.{group-at, group-of, group-rising}
@@ -58,8 +59,8 @@ module _ (n mask folding k d : ℕ) (node : Node n mask folding (suc k) d) where
 
       same : (j : ℕ) → Dec (groupNo folding j ≡ k) → bit f j ≡ bit g j
       same j (yes y) = omega (arith, node-add n mask folding k d f node p j, node-add n mask folding k d g node q j,
-          bits-of-code n folding k (d + f) (d + g) (node-down n mask folding k d f node p .allowed .small)
-            (node-down n mask folding k d g node q .allowed .small) (λ i l t. code i l t (ℕ-discrete (groupNo folding i) k)) j (omega arith))
+          bits-of-code n folding k (d + f) (d + g) (permitted-lt n mask (d + f) (node-down n mask folding k d f node p .allowed))
+            (permitted-lt n mask (d + g) (node-down n mask folding k d g node q .allowed)) (λ i l t. code i l t (ℕ-discrete (groupNo folding i) k)) j (omega arith))
       same j (no y) = omega (arith, fill-zero n mask folding k f j p y, fill-zero n mask folding k g j q y)
 
   -- the candidates of a node are in strict order

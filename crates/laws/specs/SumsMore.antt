@@ -1,26 +1,15 @@
--- Laws of `countBelow`: counts only grow, each smaller count is met once, a list is as long as its count, and a sum by pairs.
+-- More laws of counts and sums: equal tests, the number with a given count, the length of a list, and a sum by pairs.
 use Prim.Native.Nat.{ℕ, zero, suc, _+_, _*_, _≤_, _<_}
 use mathlib.Core.Path.{_≡_, refl, sym, _∙_, ap}
 use mathlib.Core.Bool.{Bool, true, false, cond}
 use mathlib.Core.List.{[], _∷_, _++_}
-use native.Mathlib.Nat.{le-refl, le-dest, not-suc-le-zero}
+use native.Mathlib.Nat.{le-refl, not-suc-le-zero}
 use native.Mathlib.Decide.{decLt}
 use native.Mathlib.Numerals.{add-one}
 use native.Mathlib.Omega.{arith}
 use lib.ListN.{length, length-append}
 use Rattle.rules.specs.Below.{sumBelow, countBelow, listBelow}
-use Rattle.laws.specs.Sums.{sum-cong, sum-split}
-
--- a count up to a greater bound is not smaller
-pub count-le : (test : ℕ → Bool) {m k : ℕ} → m ≤ k → countBelow m test ≤ countBelow k test
-unfolding countBelow
-count-le test {m} {k} h = rw (← le-dest h .1, sum-split m (le-dest h .0) (λ i. cond (test i) 1 0)) (omega arith)
-
--- a number that passes counts beyond those before it
-pub count-lt : (test : ℕ → Bool) {i m : ℕ} → i < m → test i ≡ true → countBelow i test < countBelow m test
-unfolding countBelow sumBelow
-count-lt test {i} {m} h t =
-    let e : countBelow (suc i) test ≡ countBelow i test + 1 = rw t in omega (arith, count-le test h)
+use Rattle.laws.specs.Sums.{sum-cong}
 
 -- tests that agree below m count the same
 pub count-cong : (m : ℕ) (a b : ℕ → Bool) → ((i : ℕ) → i < m → a i ≡ b i) → countBelow m a ≡ countBelow m b
