@@ -75,7 +75,7 @@ pub branch-final : (n mask : ℕ) (cost : ℕ → ℕ → ℕ) (folding k d e : 
 branch-final n mask cost folding k d e h = branch-cong n cost d e (group n folding k) (λ i m.
     codeBit-depends n folding d e i (λ j l g. sym (h .agrees j l (omega (arith, group-at n folding k i m .1)))))
 
--- a completion of a word with a filling completes the word, and so back
+-- a completion of a word with a filling completes the word
 completes-up : (n mask folding k d f e : ℕ) → Node n mask folding (suc k) d → Fills mask (group n folding k) f
     → Completes n mask folding k (d + f) e → Completes n mask folding (suc k) d e
 completes-up n mask folding k d f e v h c = record {
@@ -101,14 +101,19 @@ part-fills n mask folding k e a = record {
   inside = λ j b. let r = part-at n folding k e j b in group-of n folding k j (r .0) (r .1);
   free = λ j b. permitted-at n mask e a j (omega (arith, part-at n folding k e j b .2, bit-lt-two e j)) }
 
-completes-down : (n mask folding k d e : ℕ) → Node n mask folding (suc k) d → Completes n mask folding (suc k) d e
-    → Completes n mask folding k (d + part n folding k e) e
+-- the filling of the next group by which a completion goes on
+pub next-filling : (n mask folding k d e : ℕ) → Node n mask folding (suc k) d → Completes n mask folding (suc k) d e
+    → (f : ℕ) × Fills mask (group n folding k) f × Completes n mask folding k (d + f) e
 unfolding part
-completes-down n mask folding k d e v h = record {
-  allowed = h .allowed;
-  agrees = λ j l g. sym (node-add n mask folding k d (part n folding k e) v (part-fills n mask folding k e (h .allowed)) j
-      ∙ go j l g (ℕ-discrete (groupNo folding j) k)) }
+next-filling n mask folding k d e v h =
+    ( part n folding k e, fills
+    , record {
+        allowed = h .allowed;
+        agrees = λ j l g. sym (node-add n mask folding k d (part n folding k e) v fills j ∙ go j l g (ℕ-discrete (groupNo folding j) k)) })
   where
+    fills : Fills mask (group n folding k) (part n folding k e)
+    fills = part-fills n mask folding k e (h .allowed)
+
     go : (j : ℕ) → j < 2 ^ n → k ≤ groupNo folding j → Dec (groupNo folding j ≡ k) → bit d j + bit (part n folding k e) j ≡ bit e j
     go j l g (yes y) = omega (arith, v .undecided j l (omega arith), picked-in (2 ^ n) (λ i. eqb (groupNo folding i) k) e j l (eq-eqb _ _ y))
     go j l g (no y) = omega (arith, h .agrees j l (omega arith), picked-out (2 ^ n) (λ i. eqb (groupNo folding i) k) e j (ne-eqb _ _ y))
@@ -136,13 +141,12 @@ module _ (n mask : ℕ) (cost : ℕ → ℕ → ℕ) (folding : ℕ) where
   unfolding Leaf Under candidate
   completion-leaf zero p d e v h = (omega (arith, left-zero n cost folding e), bit-ext-below (2 ^ n) (permitted-lt n mask e (h .allowed)) (permitted-lt n mask d (v .allowed)) (λ j l. h .agrees j l zero-le))
   completion-leaf (suc k) p d e v h =
-      let f = part n folding k e in
-      let fills : Fills mask (group n folding k) f = part-fills n mask folding k e (h .allowed) in
-      let down : Completes n mask folding k (d + f) e = completes-down n mask folding k d e v h in
+      let next = next-filling n mask folding k d e v h in
+      let f : ℕ = next .0 in
       let far : p + costLeft n cost folding (suc k) e ≡ p + branch n cost (d + f) (group n folding k) + costLeft n cost folding k e
-        = omega (arith, left-step n cost folding k e, branch-final n mask cost folding k (d + f) e down) in
-      ( candidate n cost d (group n folding k) f, candidates-of n mask cost folding k d f fills
-      , rw far (completion-leaf k (p + branch n cost (d + f) (group n folding k)) (d + f) e (node-down n mask folding k d f v fills) down))
+        = omega (arith, left-step n cost folding k e, branch-final n mask cost folding k (d + f) e (next .2)) in
+      ( candidate n cost d (group n folding k) f, candidates-of n mask cost folding k d f (next .1)
+      , rw far (completion-leaf k (p + branch n cost (d + f) (group n folding k)) (d + f) e (node-down n mask folding k d f v (next .1)) (next .2)))
 
   -- the leaves of the whole tree are permitted words, each at its distance
   pub leaf-permitted : folding < 2 ^ n → (q e : ℕ) → Leaf (candidates n mask cost folding) (groups n folding) 0 0 q e

@@ -23,3 +23,5 @@ pub mod Margin
 pub mod Each
 pub mod Tight
 pub mod Demand3
+pub mod FillingCount
+pub mod CleanBlock
