@@ -25,3 +25,4 @@ pub mod Tight
 pub mod Demand3
 pub mod FillingCount
 pub mod CleanBlock
+pub mod GreatestDistance
