@@ -1,7 +1,7 @@
 -- The allowance (law 6, last part), over any keeping and any tree: a walk that stops where the next visit would pass the
 -- allowance finishes exactly when the whole walk's total is at most the allowance, with the same state.
 use Prim.Native.Nat.{ℕ, zero, suc, _+_, _≤_, _<_}
-use mathlib.Core.Path.{_≡_, refl, sym, _∙_, ap}
+use mathlib.Core.Path.{_≡_, refl, sym, _∙_}
 use mathlib.Core.Bool.{Bool, true, false, cond}
 use mathlib.Core.Option.{Option, none, some}
 use mathlib.Core.List.{List, [], _∷_}

@@ -1,6 +1,6 @@
 -- More laws of bits by index: the size of a number from its bits, and the bits of a word that a test picks.
-use Prim.Native.Nat.{ℕ, zero, suc, _*_, _%_, _^_, _≤_, _<_}
-use mathlib.Core.Path.{_≡_, refl, sym, _∙_, ap}
+use Prim.Native.Nat.{ℕ, _*_, _%_, _^_, _≤_, _<_}
+use mathlib.Core.Path.{_≡_, sym, _∙_}
 use mathlib.Core.Bool.{Bool, true, false, cond}
 use native.Mathlib.Nat.{mod-lt}
 use native.Mathlib.Decide.{decLt}

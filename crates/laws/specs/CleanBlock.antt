@@ -1,10 +1,10 @@
 -- A clean block (law 8): where one permitted word alone costs nothing, the walk takes a visit for each group and one more
 -- for each group with an unfrozen index. Over any such cost, then for the ideal levels.
-use Prim.Native.Nat.{ℕ, zero, suc, _+_, _*_, _^_, _≤_, _<_, zero-le}
+use Prim.Native.Nat.{ℕ, zero, suc, _+_, _*_, _^_, _<_, zero-le}
 use mathlib.Core.Path.{_≡_, refl, sym, _∙_, ap, ap₂}
-use mathlib.Core.Bool.{Bool, true, false, true≢false, _||_, cond}
-use mathlib.Core.List.{List, [], _∷_, _++_, map, List·Memᴰ, List·Memᴰ·head, List·Memᴰ·tail, List·Memᴰ·not-nil, List·Memᴰ·cases-cons}
-use mathlib.Core.Logic.{_≢_, _⊎_, inl, inr, ⊎-elim}
+use mathlib.Core.Bool.{Bool, true, false, cond}
+use mathlib.Core.List.{List, [], _∷_, List·Memᴰ, List·Memᴰ·head, List·Memᴰ·tail, List·Memᴰ·not-nil, List·Memᴰ·cases-cons}
+use mathlib.Core.Logic.{⊎-elim}
 use native.Mathlib.Nat.{zero-add}
 use native.Mathlib.Decide.{ℕ-discrete}
 use native.Mathlib.Omega.{arith}
@@ -12,16 +12,15 @@ use lib.IntN.{pos}
 use lib.ListN.{length}
 use borrow.Author.Tests.{lt-ltb}
 use Rattle.rules.specs.Below.{countBelow, sumBelow}
-use Rattle.rules.specs.Word.{bit, unfrozen, codeBit, codeword, permitted}
-use Rattle.rules.specs.Level.{Best, nothing, best, ideal, slotCost, levelAt, levelCost, idealLevels}
-use Rattle.rules.specs.Folding.{groupNo, group, groups}
-use Rattle.rules.specs.Walk.{Candidate, fillings, pattern, branch, candidate, insert, inOrder, goesFirst, candidates, keepBest, State, visit, walk, walkOf, walkVisits}
-use Rattle.laws.specs.Bits.{bit-lt-two, bit-ext-below}
+use Rattle.rules.specs.Word.{bit, codeBit, codeword, permitted}
+use Rattle.rules.specs.Level.{nothing, best, ideal, slotCost, levelCost, idealLevels}
+use Rattle.rules.specs.Folding.{group, groups}
+use Rattle.rules.specs.Walk.{Candidate, pattern, branch, candidate, candidates, keepBest, State, visit, walk, walkOf, walkVisits}
+use Rattle.laws.specs.Bits.{bit-ext-below}
 use Rattle.laws.specs.Each.{each-at}
 use Rattle.laws.specs.Permitted.{permitted-lt}
 use Rattle.laws.specs.Matrix.{codeword-bit}
 use Rattle.laws.specs.SortedLists.{Rising}
-use Rattle.laws.specs.Groups.{codeBit-depends}
 use Rattle.laws.specs.GroupSizes.{groupNo-below, group-at}
 use Rattle.laws.specs.Fillings.{Fills}
 use Rattle.laws.specs.FillingCount.{hasUnfrozen, one-filling, more-fillings, candidates-length}

@@ -1,20 +1,18 @@
 -- The leaves of the tree (law 7): with k levels left, the leaves below a node are the permitted words that agree with its
 -- word in the groups decided; at the root, every permitted word, each at its distance.
 use Prim.Native.Nat.{ℕ, zero, suc, _+_, _^_, _≤_, _<_, zero-le}
-use mathlib.Core.Path.{_≡_, refl, sym, _∙_, ap}
-use mathlib.Core.Bool.{Bool, true, false, true≢false, cond}
-use mathlib.Core.List.{List, List·Memᴰ}
+use mathlib.Core.Path.{_≡_, refl, sym, _∙_}
+use mathlib.Core.Bool.{true}
 use mathlib.Core.Logic.{_≢_}
 use native.Mathlib.Nat.{zero-add}
 use native.Mathlib.Decide.{decLt, ℕ-discrete}
 use native.Mathlib.Omega.{arith}
-use lib.Pow.{pow-pos}
 use lib.Dec.{eqb}
 use borrow.Author.Tests.{eq-eqb, ne-eqb}
-use Rattle.rules.specs.Word.{bit, unfrozen, codeBit, permitted}
+use Rattle.rules.specs.Word.{bit, unfrozen, permitted}
 use Rattle.rules.specs.Level.{wordDistance}
 use Rattle.rules.specs.Folding.{groupNo, group, groups}
-use Rattle.rules.specs.Walk.{Candidate, branch, candidate, candidates}
+use Rattle.rules.specs.Walk.{branch, candidate, candidates}
 use Rattle.laws.specs.Bits.{bit-lt-two, bit-zero, bit-ext-below, bit-beyond, bit-add}
 use Rattle.laws.specs.BitsMore.{small-of-bits, picked, picked-in, picked-out, picked-beyond}
 use Rattle.laws.specs.BranchAndBound.{Leaf, Under}

@@ -9,7 +9,6 @@ use native.Mathlib.Omega.{arith}
 use lib.IntN.{ℤ, pos, negsuc, natAbs, subℕ}
 use lib.Dec.{ltb}
 use borrow.Author.Tests.{leb-true, ltb-true}
-use Rattle.rules.specs.Below.{sumBelow}
 use Rattle.rules.specs.Word.{bit}
 use Rattle.rules.specs.Level.{limit, inRange, levelAt, gap, slotCost, levelCost, distance}
 use Rattle.laws.specs.Sums.{sum-le, sum-const}

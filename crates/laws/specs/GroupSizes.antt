@@ -2,18 +2,18 @@
 -- each a rising list of the indices with its number.
 use Prim.Native.Nat.{ℕ, zero, suc, _+_, _-_, _*_, _/_, _%_, _^_, _≤_, _<_}
 use mathlib.Core.Path.{_≡_, refl, sym, _∙_, ap}
-use mathlib.Core.Bool.{Bool, true, false, cond}
+use mathlib.Core.Bool.{cond}
 use mathlib.Core.List.{List·Memᴰ}
 use native.Mathlib.Nat.{two-pow-succ, pow-suc, mul-div-cancel, mul-one}
 use native.Mathlib.Decide.{ℕ-discrete}
 use native.Mathlib.Omega.{arith}
 use lib.Pow.{pow-pos}
-use lib.Bits.{bitAnd, and-step, and-le-l}
+use lib.Bits.{and-step, and-le-l}
 use lib.Count.{ones, ones-step}
 use lib.Dec.{eqb}
 use lib.ListN.{length}
 use borrow.Author.Tests.{eq-eqb, ne-eqb, eqb-true}
-use Rattle.rules.specs.Below.{sumBelow, countBelow, listBelow}
+use Rattle.rules.specs.Below.{sumBelow, countBelow}
 use Rattle.rules.specs.Folding.{smallest, groupNo, group, groups}
 use Rattle.laws.specs.Sums.{sum-cong, sum-const, sum-mul, sum-single, sum-swap, count-lt, mem-at, mem-of}
 use Rattle.laws.specs.SumsMore.{count-cong, count-find, length-list, sum-pairs}

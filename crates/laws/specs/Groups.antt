@@ -1,6 +1,6 @@
 -- Groups of a folding (law 7, first part): which indices share a number, the order of the numbers, and what a codeword bit
 -- depends on.
-use Prim.Native.Nat.{ℕ, zero, suc, _+_, _-_, _%_, _^_, _≤_, _<_, min}
+use Prim.Native.Nat.{ℕ, _-_, _%_, _^_, _≤_, _<_}
 use mathlib.Core.Path.{_≡_, refl, sym, _∙_, ap}
 use mathlib.Core.Bool.{Bool, true, false, cond}
 use native.Mathlib.Decide.{decLt, ℕ-discrete}
@@ -8,7 +8,6 @@ use native.Mathlib.Omega.{arith}
 use lib.Bits.{bitAnd, bitXor, xor-add-and}
 use lib.Dec.{eqb}
 use borrow.Author.Tests.{eq-eqb}
-use Rattle.rules.specs.Below.{countBelow}
 use Rattle.rules.specs.Word.{bit, covers, codeBit}
 use Rattle.rules.specs.Folding.{smallest, groupNo}
 use Rattle.laws.specs.Sums.{sum-cong, count-mono, count-lt}

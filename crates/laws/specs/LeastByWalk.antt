@@ -1,10 +1,10 @@
 -- The walk finds the least word (laws 6 and 7), under every folding and for every cost.
 use Prim.Native.Nat.{ℕ, _^_, _<_}
-use mathlib.Core.Path.{_≡_, sym, _∙_}
+use mathlib.Core.Path.{_≡_}
 use mathlib.Core.Bool.{true}
 use mathlib.Core.Logic.{_⊎_, inl, inr}
 use Rattle.rules.specs.Word.{permitted}
-use Rattle.rules.specs.Level.{Best, nothing, best, wordDistance, leastWord, Least}
+use Rattle.rules.specs.Level.{nothing, best, wordDistance, leastWord, Least}
 use Rattle.rules.specs.Folding.{groups}
 use Rattle.rules.specs.Walk.{candidates, walkOf}
 use Rattle.laws.specs.BranchAndBound.{AtMost, Leaf, best-good, best-from}

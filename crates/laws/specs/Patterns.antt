@@ -1,20 +1,20 @@
 -- Different fillings of a group have different patterns (law 7): so the candidates of a node are in strict order, and any
 -- list in that order with the same members is the same list.
-use Prim.Native.Nat.{ℕ, zero, suc, _+_, _*_, _%_, _^_, _≤_, _<_}
-use mathlib.Core.Path.{_≡_, refl, sym, _∙_, ap, ap₂}
-use mathlib.Core.List.{List, [], _∷_, List·Memᴰ, List·Memᴰ·head, List·Memᴰ·tail}
+use Prim.Native.Nat.{ℕ, suc, _+_, _*_, _^_, _≤_, _<_}
+use mathlib.Core.Path.{_≡_, sym, _∙_, ap}
+use mathlib.Core.List.{List, List·Memᴰ, List·Memᴰ·head, List·Memᴰ·tail}
 use mathlib.Core.Logic.{_≢_}
-use native.Mathlib.Decide.{decLt, ℕ-discrete}
+use native.Mathlib.Decide.{ℕ-discrete}
 use native.Mathlib.Omega.{arith}
 use Rattle.rules.specs.Word.{bit, codeBit, codeword}
 use Rattle.rules.specs.Folding.{groupNo, group}
-use Rattle.rules.specs.Walk.{Candidate, fillings, pattern, candidate, candidates, inOrder}
+use Rattle.rules.specs.Walk.{Candidate, fillings, pattern, candidate, candidates}
 use Rattle.laws.specs.Bits.{bit-ext}
 use Rattle.laws.specs.Matrix.{codeword-bit, codeword-twice}
 use Rattle.laws.specs.Permitted.{permitted-lt}
 use Rattle.laws.specs.SortedLists.{Rising, rising-map, rising-unique}
 use Rattle.laws.specs.Groups.{codeBit-depends}
-use Rattle.laws.specs.GroupSizes.{group-at, group-of, group-rising}
+use Rattle.laws.specs.GroupSizes.{group-of, group-rising}
 use Rattle.laws.specs.Fillings.{Fills, fillings-at, fillings-differ}
 use Rattle.laws.specs.Candidates.{Before, before-asym, inOrder-rising}
 use Rattle.laws.specs.Completions.{Node, node-add, node-down, fill-zero}
