@@ -27,8 +27,8 @@ visitIn K a down p d (c ∷ cs) (some s) =
     choose (leb a (s .visits))
     (λ _. none)
     (λ _. choose (K .leaves (s .kept) (p + c .branch))
-      (λ _. some (count s))
-      (λ _. visitIn K a down p d cs (down (p + c .branch) (d + c .filling) (some (count s)))))
+    (λ _. some (count s))
+    (λ _. visitIn K a down p d cs (down (p + c .branch) (d + c .filling) (some (count s)))))
 
 -- the walk that stops where the next visit would pass the allowance
 unfoldable pub walkIn : (K : Keeping) → ℕ → (ℕ → ℕ → List Candidate) → ℕ → ℕ → ℕ → Option (State K) → Option (State K)
@@ -118,15 +118,15 @@ module _ (K : Keeping) (a : ℕ) (down : ℕ → ℕ → State K → State K) (d
 
       go : (t : Bool) → leb a (s .visits) ≡ t
           → visitIn K a downIn p d cs (within a (down (p + c .branch) (d + c .filling) (count s)))
-            ≡ within a (visit K down p d cs (down (p + c .branch) (d + c .filling) (count s)))
+          ≡ within a (visit K down p d cs (down (p + c .branch) (d + c .filling) (count s)))
           → visitIn K a downIn p d (c ∷ cs) (within a s) ≡ within a (visit K down p d (c ∷ cs) s)
       go true t ih = out (leb-true a _ t)
           ∙ sym (within-none a (visit K down p d (c ∷ cs) s) (omega (arith, leb-true a _ t, visit-more p d c cs s)))
       go false t ih = rw (within-some a s (omega (arith, leb-false a _ t)))
           (visit-cases K down p d c cs s (λ (u : State K). visitIn K a downIn p d (c ∷ cs) (some s) ≡ within a u)
-            (λ l. visit-cut K a downIn p d c cs s (leb-false a _ t) l ∙ sym (within-some a (count s) (leb-false a _ t)))
-            (λ l. visit-down K a downIn p d c cs s (leb-false a _ t) l
-              ∙ rw (← within-some a (count s) (leb-false a _ t), same (p + c .branch) (d + c .filling) (count s)) ih))
+          (λ l. visit-cut K a downIn p d c cs s (leb-false a _ t) l ∙ sym (within-some a (count s) (leb-false a _ t)))
+          (λ l. visit-down K a downIn p d c cs s (leb-false a _ t) l
+          ∙ rw (← within-some a (count s) (leb-false a _ t), same (p + c .branch) (d + c .filling) (count s)) ih))
 
 -- the walk within an allowance is the walk, if its state is within the allowance
 pub walk-within : (K : Keeping) (a : ℕ) (candidatesOf : ℕ → ℕ → List Candidate) (k p d : ℕ) (s : State K)

@@ -92,7 +92,8 @@ module _ (K : Keeping) (Settled : K .Kept → ℕ → ℕ → Type 0) (settles :
       cut : K .leaves (s .kept) (p + c .branch) ≡ true → Good Settled (Under L p d (c ∷ cs)) (s .kept) (s .kept)
       cut t = record {
         stays = λ q e h. h;
-        below = λ q e l. settles .cuts (p + c .branch) (s .kept) t q e (omega (arith, near _ _ q e (l .2), ordered-least (c .branch) (c ∷ cs) (le-refl _, o .1) (l .0) (l .1))) }
+        below = λ q e l. settles .cuts (p + c .branch) (s .kept) t q e (omega (arith, near _ _ q e (l .2), ordered-least (c .branch) (c ∷ cs) (le-refl _, o .1) (l .0) (l .1)));
+      }
 
   -- the walk below a node misses no leaf and unsettles nothing
   pub walk-good : (candidatesOf : ℕ → ℕ → List Candidate) → ((k d : ℕ) → OrderedFrom 0 (candidatesOf k d))
@@ -100,7 +101,8 @@ module _ (K : Keeping) (Settled : K .Kept → ℕ → ℕ → Type 0) (settles :
   unfolding Leaf walk
   walk-good candidatesOf ordered zero p d s = record {
     stays = settles .stays p d (s .kept);
-    below = λ q e l. rw (l .0, l .1) (settles .takes p d (s .kept)) }
+    below = λ q e l. rw (l .0, l .1) (settles .takes p d (s .kept));
+  }
   walk-good candidatesOf ordered (suc k) p d s =
       visit-good (Leaf candidatesOf k) (leaf-near candidatesOf k) (walk K candidatesOf k) (walk-good candidatesOf ordered k) p d 0
       (candidatesOf k d) (ordered k d) s
@@ -116,7 +118,7 @@ module _ (K : Keeping) where
   visit-from P L down from p d (c ∷ cs) s closed h =
       visit-cases K down p d c cs s (λ (t : State K). P (t .kept)) (λ _. h)
       (λ _. visit-from P L down from p d cs (down (p + c .branch) (d + c .filling) (count s)) (λ q e l. closed q e (l .0, List·Memᴰ·tail (l .1), l .2))
-        (from _ _ (count s) (λ q e l. closed q e (c, List·Memᴰ·head refl, l)) h))
+      (from _ _ (count s) (λ q e l. closed q e (c, List·Memᴰ·head refl, l)) h))
 
   -- what holds at first and is kept by keeping any leaf holds of what the walk has kept
   pub walk-from : (P : K .Kept → Type 0) (candidatesOf : ℕ → ℕ → List Candidate) (k p d : ℕ) (s : State K)

@@ -96,9 +96,11 @@ unfolding insert Rising
 insert-rising c [] ne r = (λ x m. absurd (List·Memᴰ·not-nil m), tt)
 insert-rising c (a ∷ cs) ne r = goes-cases c a (λ t. Rising Before (cond t (c ∷ a ∷ cs) (a ∷ insert c cs)))
     (λ _ h. let first : Before c a = h (ne a (List·Memᴰ·head refl)) in
-      ( λ x m. ⊎-elim (λ (e : x ≡ a). rw e first) (λ i. before-trans c a x first (r .0 x i)) (List·Memᴰ·cases-cons m), r))
-    (λ h. ( λ x m. ⊎-elim (λ (e : x ≡ c). rw e h) (λ i. r .0 x i) (List·Memᴰ·cases-cons (insert-at c cs x m))
-      , insert-rising c cs (λ x m. ne x (List·Memᴰ·tail m)) (r .1)))
+    (λ x m. ⊎-elim (λ (e : x ≡ a). rw e first) (λ i. before-trans c a x first (r .0 x i)) (List·Memᴰ·cases-cons m), r))
+    (λ h. (
+      λ x m. ⊎-elim (λ (e : x ≡ c). rw e h) (λ i. r .0 x i) (List·Memᴰ·cases-cons (insert-at c cs x m)),
+      insert-rising c cs (λ x m. ne x (List·Memᴰ·tail m)) (r .1),
+    ))
 
 -- sorted candidates with different patterns rise
 pub inOrder-rising : (cs : List Candidate) → Rising (λ (a b : Candidate). a .pattern ≢ b .pattern) cs → Rising Before (inOrder cs)

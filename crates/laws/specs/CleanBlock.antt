@@ -33,7 +33,6 @@ pub record Clean (n : ℕ) (cost : ℕ → ℕ → ℕ) (w : ℕ) : Type 0 where
   pub free : (i : ℕ) → i < 2 ^ n → cost i (codeBit n w i) ≡ 0
   pub alone : (i b : ℕ) → i < 2 ^ n → b < 2 → cost i b ≡ 0 → b ≡ codeBit n w i
 
-
 -- a branch of no cost is a sum of no costs
 branch-zero : (n : ℕ) (cost : ℕ → ℕ → ℕ) (d : ℕ) (is : List ℕ) → branch n cost d is ≡ 0 → (i : ℕ) → List·Memᴰ i is → cost i (codeBit n d i) ≡ 0
 unfolding branch
@@ -83,10 +82,10 @@ module _ (n mask : ℕ) (cost : ℕ → ℕ → ℕ) (folding w : ℕ) (clean : 
       × (candidates n mask cost folding k d ≡ candidate n cost d (group n folding k) f ∷ rest) × (branch n cost (d + f) (group n folding k) ≡ 0)
       × ((a : Candidate) → List·Memᴰ a rest → 0 < a .branch)
   unfolding candidate
-  row k d v h = 
+  row k d v h =
       let next = next-filling n mask folding k d w v h in
       let r = first-free (candidate n cost d (group n folding k) (next .0)) (candidates n mask cost folding k d) (candidates-rising n mask folding k d v cost)
-        (candidates-of n mask cost folding k d (next .0) (next .1)) (free (next .0) (next .2)) (only (next .0) (next .1) (next .2)) in
+      (candidates-of n mask cost folding k d (next .0) (next .1)) (free (next .0) (next .2)) (only (next .0) (next .1) (next .2)) in
       (next .0, r .0, next .1, next .2, r .1, free (next .0) (next .2), r .2)
     where
       free : (f : ℕ) → Completes n mask folding k (d + f) w → branch n cost (d + f) (group n folding k) ≡ 0
@@ -100,7 +99,7 @@ module _ (n mask : ℕ) (cost : ℕ → ℕ → ℕ) (folding w : ℕ) (clean : 
       only f p c a m z =
           let x = candidates-at n mask cost folding k d a m in
           let e : x .0 ≡ f = pattern-filling n mask folding k d v (x .0) f (x .1) p
-            (pattern-cong n (d + x .0) (d + f) (group n folding k) (λ i t. bits (x .0) (rw (x .2) at z) i t ∙ sym (bits f (free f c) i t))) in
+          (pattern-cong n (d + x .0) (d + f) (group n folding k) (λ i t. bits (x .0) (rw (x .2) at z) i t ∙ sym (bits f (free f c) i t))) in
           x .2 ∙ ap (candidate n cost d (group n folding k)) e
 
   -- the state in which w is found
@@ -111,7 +110,7 @@ module _ (n mask : ℕ) (cost : ℕ → ℕ → ℕ) (folding w : ℕ) (clean : 
   visit-rest : (down : ℕ → ℕ → State keepBest → State keepBest) (k d v f : ℕ) (rest : List Candidate)
       → candidates n mask cost folding k d ≡ candidate n cost d (group n folding k) f ∷ rest → ((a : Candidate) → List·Memᴰ a rest → 0 < a .branch)
       → visit keepBest down 0 d rest (record { kept = best 0 w; visits = suc v + visitsOf n mask folding k })
-        ≡ record { kept = best 0 w; visits = v + visitsOf n mask folding (suc k) }
+      ≡ record { kept = best 0 w; visits = v + visitsOf n mask folding (suc k) }
   unfolding visit visitsOf countBelow sumBelow found
   visit-rest down k d v f [] e costs = ap found (go (hasUnfrozen mask (group n folding k)) refl)
     where
@@ -130,7 +129,7 @@ module _ (n mask : ℕ) (cost : ℕ → ℕ → ℕ) (folding w : ℕ) (clean : 
   -- the walk below a node on the way to w finds w at no cost
   clean-walk : (k d v : ℕ) → Node n mask folding k d → Completes n mask folding k d w
       → walk keepBest (candidates n mask cost folding) k 0 d (record { kept = nothing; visits = v })
-        ≡ record { kept = best 0 w; visits = v + visitsOf n mask folding k }
+      ≡ record { kept = best 0 w; visits = v + visitsOf n mask folding k }
   unfolding walk visit candidate visitsOf countBelow sumBelow found
   clean-walk zero d v node h =
       let same : d ≡ w = bit-ext-below (2 ^ n) (permitted-lt n mask d (node .allowed)) (permitted-lt n mask w (h .allowed)) (λ j l. sym (h .agrees j l zero-le)) in
@@ -146,8 +145,9 @@ module _ (n mask : ℕ) (cost : ℕ → ℕ → ℕ) (folding w : ℕ) (clean : 
   unfolding walkOf visitsOf
   clean-visits fits allowed =
       let whole : Completes n mask folding (groups n folding) 0 w = record {
-            allowed = allowed;
-            agrees = λ j l g. absurd (omega (arith, groupNo-below n folding fits j l)) } in
+        allowed = allowed;
+        agrees = λ j l g. absurd (omega (arith, groupNo-below n folding fits j l));
+      } in
       ap (λ (s : State keepBest). s .visits) (clean-walk (groups n folding) 0 0 (root n mask cost folding (groups n folding)) whole) ∙ zero-add _
 
 -- a bit costs nothing at its own ideal level, and the other bit costs
@@ -173,10 +173,11 @@ unfolding idealLevels
 ideal-clean n w = record {
   free = λ i l. rw (each-at (λ j. ideal (bit (codeword n w) j)) (pos 0) (2 ^ n) i l, codeword-bit n w i) (ideal-free (codeBit n w i) (codeBit-lt n w i));
   alone = λ i b l t z. ideal-alone (codeBit n w i) b (codeBit-lt n w i) t
-      (rw (each-at (λ j. ideal (bit (codeword n w) j)) (pos 0) (2 ^ n) i l, codeword-bit n w i) at z) }
+      (rw (each-at (λ j. ideal (bit (codeword n w) j)) (pos 0) (2 ^ n) i l, codeword-bit n w i) at z);
+}
 
 -- the visits at the ideal levels of a permitted word
 pub ideal-visits : (n mask folding w : ℕ) → folding < 2 ^ n → permitted n mask w ≡ true
     → walkVisits n mask (levelCost (idealLevels n (codeword n w))) folding
-      ≡ groups n folding + countBelow (groups n folding) (λ k. hasUnfrozen mask (group n folding k))
+    ≡ groups n folding + countBelow (groups n folding) (λ k. hasUnfrozen mask (group n folding k))
 ideal-visits n mask folding w = clean-visits n mask (levelCost (idealLevels n (codeword n w))) folding w (ideal-clean n w)

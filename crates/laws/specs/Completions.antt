@@ -57,7 +57,8 @@ node-down n mask folding k d f v h = record {
   allowed = permitted-of n mask (d + f) (small-of-bits (2 ^ n) (d + f) (λ j l. beyond j l (ℕ-discrete (bit f j) 0)))
       (λ j b. free j b (ℕ-discrete (bit f j) 0));
   undecided = λ j l g. node-add n mask folding k d f v h j
-      ∙ omega (arith, v .undecided j l (omega arith), fill-zero n mask folding k f j h (omega arith)) }
+      ∙ omega (arith, v .undecided j l (omega arith), fill-zero n mask folding k f j h (omega arith));
+}
   where
     beyond : (j : ℕ) → 2 ^ n ≤ j → Dec (bit f j ≡ 0) → bit (d + f) j ≡ 0
     beyond j l (yes z) = node-add n mask folding k d f v h j ∙ omega (arith, bit-beyond (permitted-lt n mask d (v .allowed)) l)
@@ -79,7 +80,8 @@ completes-up : (n mask folding k d f e : ℕ) → Node n mask folding (suc k) d 
 completes-up n mask folding k d f e v h c = record {
   allowed = c .allowed;
   agrees = λ j l g. c .agrees j l (omega arith)
-      ∙ omega (arith, node-add n mask folding k d f v h j, fill-zero n mask folding k f j h (omega arith)) }
+      ∙ omega (arith, node-add n mask folding k d f v h j, fill-zero n mask folding k f j h (omega arith));
+}
 
 -- the bits of a word in group k
 part : (n folding k e : ℕ) → ℕ
@@ -97,17 +99,21 @@ part-at n folding k e j b = go (decLt j (2 ^ n)) (ℕ-discrete (groupNo folding 
 part-fills : (n mask folding k e : ℕ) → permitted n mask e ≡ true → Fills mask (group n folding k) (part n folding k e)
 part-fills n mask folding k e a = record {
   inside = λ j b. let r = part-at n folding k e j b in group-of n folding k j (r .0) (r .1);
-  free = λ j b. permitted-at n mask e a j (omega (arith, part-at n folding k e j b .2, bit-lt-two e j)) }
+  free = λ j b. permitted-at n mask e a j (omega (arith, part-at n folding k e j b .2, bit-lt-two e j));
+}
 
 -- the filling of the next group by which a completion goes on
 pub next-filling : (n mask folding k d e : ℕ) → Node n mask folding (suc k) d → Completes n mask folding (suc k) d e
     → (f : ℕ) × Fills mask (group n folding k) f × Completes n mask folding k (d + f) e
 unfolding part
-next-filling n mask folding k d e v h =
-    ( part n folding k e, fills
-    , record {
-        allowed = h .allowed;
-        agrees = λ j l g. sym (node-add n mask folding k d (part n folding k e) v fills j ∙ go j l g (ℕ-discrete (groupNo folding j) k)) })
+next-filling n mask folding k d e v h = (
+  part n folding k e,
+  fills,
+  record {
+    allowed = h .allowed;
+    agrees = λ j l g. sym (node-add n mask folding k d (part n folding k e) v fills j ∙ go j l g (ℕ-discrete (groupNo folding j) k));
+  },
+)
   where
     fills : Fills mask (group n folding k) (part n folding k e)
     fills = part-fills n mask folding k e (h .allowed)
@@ -129,9 +135,10 @@ module _ (n mask : ℕ) (cost : ℕ → ℕ → ℕ) (folding : ℕ) where
       (rw (l .1) (record { allowed = v .allowed; agrees = λ j i g. refl }), omega (arith, left-zero n cost folding e))
   leaf-completes (suc k) p d q e v (c, m, l) =
       let r = candidates-at n mask cost folding k d c m in
-      let h = leaf-completes k (p + branch n cost (d + r .0) (group n folding k)) (d + r .0) q e (node-down n mask folding k d (r .0) v (r .1)) (rw (r .2) at l) in
-      ( completes-up n mask folding k d (r .0) e v (r .1) (h .0)
-      , omega (arith, h .1, left-step n cost folding k e, branch-final n mask cost folding k (d + r .0) e (h .0)))
+      let h = leaf-completes k (p + branch n cost (d + r .0) (group n folding k)) (d + r .0) q e (node-down n mask folding k d (r .0) v (r .1)) (rw (r .2) at l) in (
+        completes-up n mask folding k d (r .0) e v (r .1) (h .0),
+        omega (arith, h .1, left-step n cost folding k e, branch-final n mask cost folding k (d + r .0) e (h .0)),
+      )
 
   -- every completion of a node's word is a leaf below it
   pub completion-leaf : (k p d e : ℕ) → Node n mask folding k d → Completes n mask folding k d e
@@ -142,9 +149,11 @@ module _ (n mask : ℕ) (cost : ℕ → ℕ → ℕ) (folding : ℕ) where
       let next = next-filling n mask folding k d e v h in
       let f : ℕ = next .0 in
       let far : p + costLeft n cost folding (suc k) e ≡ p + branch n cost (d + f) (group n folding k) + costLeft n cost folding k e
-        = omega (arith, left-step n cost folding k e, branch-final n mask cost folding k (d + f) e (next .2)) in
-      ( candidate n cost d (group n folding k) f, candidates-of n mask cost folding k d f (next .1)
-      , rw far (completion-leaf k (p + branch n cost (d + f) (group n folding k)) (d + f) e (node-down n mask folding k d f v (next .1)) (next .2)))
+      = omega (arith, left-step n cost folding k e, branch-final n mask cost folding k (d + f) e (next .2)) in (
+        candidate n cost d (group n folding k) f,
+        candidates-of n mask cost folding k d f (next .1),
+        rw far (completion-leaf k (p + branch n cost (d + f) (group n folding k)) (d + f) e (node-down n mask folding k d f v (next .1)) (next .2)),
+      )
 
   -- the leaves of the whole tree are permitted words, each at its distance
   pub leaf-permitted : folding < 2 ^ n → (q e : ℕ) → Leaf (candidates n mask cost folding) (groups n folding) 0 0 q e
@@ -159,4 +168,5 @@ module _ (n mask : ℕ) (cost : ℕ → ℕ → ℕ) (folding : ℕ) where
   permitted-leaf fits e t = rw (zero-add _ ∙ left-all n cost folding fits e)
       at (completion-leaf (groups n folding) 0 0 e (root (groups n folding)) (record {
         allowed = t;
-        agrees = λ j l g. absurd (omega (arith, groupNo-below n folding fits j l)) }))
+        agrees = λ j l g. absurd (omega (arith, groupNo-below n folding fits j l));
+      }))

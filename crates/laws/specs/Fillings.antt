@@ -66,7 +66,8 @@ fills-rest mask i is f z h = record { inside = λ j b. go j b (List·Memᴰ·cas
 fills-fewer : (mask : ℕ) (is : List ℕ) (f g : ℕ) → ((j : ℕ) → bit g j ≤ bit f j) → Fills mask is f → Fills mask is g
 fills-fewer mask is f g le h = record {
   inside = λ j b. h .inside j (λ z. b (omega (arith, le j)));
-  free = λ j b. h .free j (λ z. b (omega (arith, le j))) }
+  free = λ j b. h .free j (λ z. b (omega (arith, le j)));
+}
 
 -- a filling of later indices has a zero at an earlier one
 fills-before : (mask i : ℕ) (is : List ℕ) (f : ℕ) → Rising _<_ (i ∷ is) → Fills mask is f → bit f i ≡ 0
@@ -91,7 +92,7 @@ fillings-at mask (i ∷ is) r f m = go (unfrozen mask i) refl m (fillings-at mas
     go false t m below = fills-cons mask i is f (below f m)
     go true t m below = ⊎-elim (λ m′. fills-cons mask i is f (below f m′))
         (λ m′. let x = mem-map-at (λ x. x + 2 ^ i) (fillings mask is) f m′ in
-          rw (x .2) (fills-put mask i is (x .0) (fills-before mask i is (x .0) r (below (x .0) (x .1))) t (below (x .0) (x .1))))
+        rw (x .2) (fills-put mask i is (x .0) (fills-before mask i is (x .0) r (below (x .0) (x .1))) t (below (x .0) (x .1))))
         (List·Memᴰ·append-cases (fillings mask is) m)
 
 -- the fillings of a rising list of indices are different

@@ -74,7 +74,7 @@ size zero folding h f l e =
     let f0 : folding ≡ 0 = omega arith in let h0 : h ≡ 0 = omega arith in rw (f0, h0, ones-zero)
 size (suc n) folding h f l e =
     let below : countBelow (2 ^ n) (λ i. eqb (smallest (folding / 2) i) (h / 2)) ≡ 2 ^ ones (folding / 2)
-      = size n (folding / 2) (h / 2) (omega (arith, two-pow-succ n)) (omega (arith, two-pow-succ n)) (omega (arith, smallest-step folding h (h / 2) refl)) in
+    = size n (folding / 2) (h / 2) (omega (arith, two-pow-succ n)) (omega (arith, two-pow-succ n)) (omega (arith, smallest-step folding h (h / 2) refl)) in
     rw (pow-suc 2 n, sum-pairs (2 ^ n) (λ i. flag (smallest folding i) h))
     (sum-cong (2 ^ n) (λ i l. flag-pair folding h i e) ∙ sum-mul (2 ^ n) (1 + folding % 2) (λ i. flag (smallest (folding / 2) i) (h / 2))
     ∙ rw (below, ones-step folding) (one-more (folding % 2) (ones (folding / 2)) (omega arith)))
@@ -107,7 +107,7 @@ module _ (n folding : ℕ) (fits : folding < 2 ^ n) where
   unfolding countBelow
   all-heads =
       let number : 2 ^ n ≡ sumBelow (2 ^ n) (λ i. sumBelow heads (λ k. flag (groupNo folding i) k))
-        = sym (mul-one (2 ^ n)) ∙ sym (sum-const (2 ^ n) 1) ∙ sum-cong (2 ^ n) (λ i l. sym (own i l)) in
+      = sym (mul-one (2 ^ n)) ∙ sym (sum-const (2 ^ n) 1) ∙ sum-cong (2 ^ n) (λ i l. sym (own i l)) in
       number ∙ sum-swap (2 ^ n) heads (λ i k. flag (groupNo folding i) k) ∙ sum-cong heads (λ k l. no-size k l) ∙ sum-const heads (2 ^ ones folding)
     where
       own : (i : ℕ) → i < 2 ^ n → sumBelow heads (λ k. flag (groupNo folding i) k) ≡ 1

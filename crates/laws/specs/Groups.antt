@@ -64,8 +64,8 @@ groupNo-same folding i j e = omega (arith, groupNo-le folding i j (omega arith),
 pub covers-group : (folding i j : ℕ) → covers i j ≡ true → groupNo folding i ≤ groupNo folding j
 covers-group folding i j h =
     let bits : covers (smallest folding i) (smallest folding j) ≡ true
-      = covers-of (smallest folding i) (smallest folding j)
-        (λ k. omega (arith, smallest-bit folding i k, smallest-bit folding j k, covers-at i j h k)) in
+    = covers-of (smallest folding i) (smallest folding j)
+    (λ k. omega (arith, smallest-bit folding i k, smallest-bit folding j k, covers-at i j h k)) in
     groupNo-le folding i j (covers-le (smallest folding i) (smallest folding j) bits)
 
 -- a codeword bit depends on the bits of d in groups not below its own alone

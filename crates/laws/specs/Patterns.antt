@@ -38,7 +38,7 @@ pub bits-of-code : (n folding k d e : ℕ) → d < 2 ^ (2 ^ n) → e < 2 ^ (2 ^ 
     → (j : ℕ) → k ≤ groupNo folding j → bit d j ≡ bit e j
 bits-of-code n folding k d e p q h j g =
     sym (back d p) ∙ codeBit-depends n folding (codeword n d) (codeword n e) j
-      (λ i l t. codeword-bit n d i ∙ h i l (omega arith) ∙ sym (codeword-bit n e i)) ∙ back e q
+    (λ i l t. codeword-bit n d i ∙ h i l (omega arith) ∙ sym (codeword-bit n e i)) ∙ back e q
   where
     back : (x : ℕ) → x < 2 ^ (2 ^ n) → codeBit n (codeword n x) j ≡ bit x j
     back x l = sym (codeword-bit n (codeword n x) j) ∙ ap (λ (y : ℕ). bit y j) (codeword-twice n x l)
@@ -50,17 +50,26 @@ module _ (n mask folding k d : ℕ) (node : Node n mask folding (suc k) d) where
   pattern-filling f g p q e = bit-ext (λ j. same j (ℕ-discrete (groupNo folding j) k))
     where
       later : (j : ℕ) → groupNo folding j ≢ k → bit (d + f) j ≡ bit (d + g) j
-      later j ne = omega (arith, node-add n mask folding k d f node p j, node-add n mask folding k d g node q j,
-          fill-zero n mask folding k f j p ne, fill-zero n mask folding k g j q ne)
+      later j ne = omega (
+        arith,
+        node-add n mask folding k d f node p j,
+        node-add n mask folding k d g node q j,
+        fill-zero n mask folding k f j p ne,
+        fill-zero n mask folding k g j q ne,
+      )
 
       code : (i : ℕ) → i < 2 ^ n → k ≤ groupNo folding i → Dec (groupNo folding i ≡ k) → codeBit n (d + f) i ≡ codeBit n (d + g) i
       code i l t (yes y) = pattern-bits n (d + f) (d + g) (group n folding k) e i (group-of n folding k i l y)
       code i l t (no y) = codeBit-depends n folding (d + f) (d + g) i (λ j _ u. later j (λ z. y (omega arith)))
 
       same : (j : ℕ) → Dec (groupNo folding j ≡ k) → bit f j ≡ bit g j
-      same j (yes y) = omega (arith, node-add n mask folding k d f node p j, node-add n mask folding k d g node q j,
-          bits-of-code n folding k (d + f) (d + g) (permitted-lt n mask (d + f) (node-down n mask folding k d f node p .allowed))
-            (permitted-lt n mask (d + g) (node-down n mask folding k d g node q .allowed)) (λ i l t. code i l t (ℕ-discrete (groupNo folding i) k)) j (omega arith))
+      same j (yes y) = omega (
+        arith,
+        node-add n mask folding k d f node p j,
+        node-add n mask folding k d g node q j,
+        bits-of-code n folding k (d + f) (d + g) (permitted-lt n mask (d + f) (node-down n mask folding k d f node p .allowed))
+            (permitted-lt n mask (d + g) (node-down n mask folding k d g node q .allowed)) (λ i l t. code i l t (ℕ-discrete (groupNo folding i) k)) j (omega arith),
+      )
       same j (no y) = omega (arith, fill-zero n mask folding k f j p y, fill-zero n mask folding k g j q y)
 
   -- the candidates of a node are in strict order
@@ -68,10 +77,10 @@ module _ (n mask folding k d : ℕ) (node : Node n mask folding (suc k) d) where
   unfolding candidates candidate
   candidates-rising cost =
       let fills : (f : ℕ) → List·Memᴰ f (fillings mask (group n folding k)) → Fills mask (group n folding k) f
-        = fillings-at mask (group n folding k) (group-rising n folding k) in
+      = fillings-at mask (group n folding k) (group-rising n folding k) in
       inOrder-rising _ (rising-map (λ (f g : ℕ). f ≢ g) (λ (a b : Candidate). a .pattern ≢ b .pattern) (candidate n cost d (group n folding k)) (fillings mask (group n folding k))
-        (λ f g i j ne e. ne (pattern-filling f g (fills f i) (fills g j) e))
-        (fillings-differ mask (group n folding k) (group-rising n folding k)))
+      (λ f g i j ne e. ne (pattern-filling f g (fills f i) (fills g j) e))
+      (fillings-differ mask (group n folding k) (group-rising n folding k)))
 
   -- a list in strict order with the same members is the list of candidates
   pub candidates-unique : (cost : ℕ → ℕ → ℕ) (row : List Candidate) → Rising Before row

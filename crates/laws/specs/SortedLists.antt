@@ -28,18 +28,20 @@ pub rising-map : {A B : Type 0} (R : A → A → Type 0) (S : B → B → Type 0
     → ((a b : A) → List·Memᴰ a xs → List·Memᴰ b xs → R a b → S (f a) (f b)) → Rising R xs → Rising S (map f xs)
 unfolding Rising
 rising-map R S f [] h r = tt
-rising-map {A} {B} R S f (x ∷ xs) h r =
-    ( λ b m. let i = mem-map-at f xs b m in rw (i .2) (h x (i .0) (List·Memᴰ·head refl) (List·Memᴰ·tail (i .1)) (r .0 (i .0) (i .1)))
-    , rising-map R S f xs (λ a b i j. h a b (List·Memᴰ·tail i) (List·Memᴰ·tail j)) (r .1))
+rising-map {A} {B} R S f (x ∷ xs) h r = (
+  λ b m. let i = mem-map-at f xs b m in rw (i .2) (h x (i .0) (List·Memᴰ·head refl) (List·Memᴰ·tail (i .1)) (r .0 (i .0) (i .1))),
+  rising-map R S f xs (λ a b i j. h a b (List·Memᴰ·tail i) (List·Memᴰ·tail j)) (r .1),
+)
 
 module _ {A : Type 0} (R : A → A → Type 0) where
   -- two rising lists, each element of the first before every one of the second
   pub rising-append : (xs ys : List A) → Rising R xs → Rising R ys → ((a b : A) → List·Memᴰ a xs → List·Memᴰ b ys → R a b) → Rising R (xs ++ ys)
   unfolding Rising
   rising-append [] ys r t h = t
-  rising-append (a ∷ xs) ys r t h =
-      ( λ b m. ⊎-elim (λ i. r .0 b i) (λ i. h a b (List·Memᴰ·head refl) i) (List·Memᴰ·append-cases xs m)
-      , rising-append xs ys (r .1) t (λ x y i j. h x y (List·Memᴰ·tail i) j))
+  rising-append (a ∷ xs) ys r t h = (
+    λ b m. ⊎-elim (λ i. r .0 b i) (λ i. h a b (List·Memᴰ·head refl) i) (List·Memᴰ·append-cases xs m),
+    rising-append xs ys (r .1) t (λ x y i j. h x y (List·Memᴰ·tail i) j),
+  )
 
   -- a rising list is given by its members
   pub rising-unique : ((a b : A) → R a b → R b a → ⊥) → (xs ys : List A) → Rising R xs → Rising R ys
