@@ -1,6 +1,6 @@
 -- A clean block (law 8): where one permitted word alone costs nothing, the walk takes a visit for each group and one more
 -- for each group with an unfrozen index. Over any such cost, then for the ideal levels.
-use Prim.Native.Nat.{ℕ, zero, suc, _+_, _*_, _^_, _<_, zero-le}
+use Prim.Native.Nat.{ℕ, zero, suc, _+_, _*_, _^_, _<_}
 use mathlib.Core.Path.{_≡_, refl, sym, _∙_, ap, ap₂}
 use mathlib.Core.Bool.{Bool, true, false, cond}
 use mathlib.Core.List.{List, [], _∷_, List·Memᴰ, List·Memᴰ·head, List·Memᴰ·tail, List·Memᴰ·not-nil, List·Memᴰ·cases-cons}
@@ -16,16 +16,14 @@ use Rattle.rules.specs.Word.{bit, codeBit, codeword, permitted}
 use Rattle.rules.specs.Level.{nothing, best, ideal, slotCost, levelCost, idealLevels}
 use Rattle.rules.specs.Folding.{group, groups}
 use Rattle.rules.specs.Walk.{Candidate, pattern, branch, candidate, candidates, keepBest, State, visit, walk, walkOf, walkVisits}
-use Rattle.laws.specs.Bits.{bit-ext-below}
 use Rattle.laws.specs.Each.{each-at}
-use Rattle.laws.specs.Permitted.{permitted-lt}
 use Rattle.laws.specs.Matrix.{codeword-bit}
 use Rattle.laws.specs.SortedLists.{Rising}
-use Rattle.laws.specs.GroupSizes.{groupNo-below, group-at}
+use Rattle.laws.specs.GroupSizes.{group-at}
 use Rattle.laws.specs.Fillings.{Fills}
 use Rattle.laws.specs.FillingCount.{hasUnfrozen, one-filling, more-fillings, candidates-length}
 use Rattle.laws.specs.Candidates.{Before, before-asym, candidates-at, candidates-of}
-use Rattle.laws.specs.Completions.{Node, Completes, root, node-down, next-filling, branch-final}
+use Rattle.laws.specs.Completions.{Node, Completes, root, node-down, next-filling, branch-final, completes-all, completes-none}
 use Rattle.laws.specs.Patterns.{pattern-filling, candidates-rising}
 
 -- the codeword bits of w, and they alone, cost nothing
@@ -132,8 +130,7 @@ module _ (n mask : ℕ) (cost : ℕ → ℕ → ℕ) (folding w : ℕ) (clean : 
       ≡ record { kept = best 0 w; visits = v + visitsOf n mask folding k }
   unfolding walk visit candidate visitsOf countBelow sumBelow found
   clean-walk zero d v node h =
-      let same : d ≡ w = bit-ext-below (2 ^ n) (permitted-lt n mask d (node .allowed)) (permitted-lt n mask w (h .allowed)) (λ j l. sym (h .agrees j l zero-le)) in
-      rw same (ap found (omega arith))
+      rw (← completes-all n mask folding d w node h) (ap found (omega arith))
   clean-walk (suc k) d v node h =
       let r = row k d node h in
       rw (r .4, r .5, clean-walk k (d + r .0) (suc v) (node-down n mask folding k d (r .0) node (r .2)) (r .3))
@@ -143,12 +140,8 @@ module _ (n mask : ℕ) (cost : ℕ → ℕ → ℕ) (folding w : ℕ) (clean : 
   pub clean-visits : folding < 2 ^ n → permitted n mask w ≡ true
       → walkVisits n mask cost folding ≡ groups n folding + countBelow (groups n folding) (λ k. hasUnfrozen mask (group n folding k))
   unfolding walkOf visitsOf
-  clean-visits fits allowed =
-      let whole : Completes n mask folding (groups n folding) 0 w = record {
-        allowed = allowed;
-        agrees = λ j l g. absurd (omega (arith, groupNo-below n folding fits j l));
-      } in
-      ap (λ (s : State keepBest). s .visits) (clean-walk (groups n folding) 0 0 (root n mask cost folding (groups n folding)) whole) ∙ zero-add _
+  clean-visits fits allowed = ap (λ (s : State keepBest). s .visits)
+      (clean-walk (groups n folding) 0 0 (root n mask folding (groups n folding)) (completes-none n mask folding w fits allowed)) ∙ zero-add _
 
 -- a bit costs nothing at its own ideal level, and the other bit costs
 ideal-free : (b : ℕ) → b < 2 → slotCost (ideal b) b ≡ 0

@@ -122,11 +122,23 @@ next-filling n mask folding k d e v h = (
     go j l g (yes y) = omega (arith, v .undecided j l (omega arith), picked-in (2 ^ n) (λ i. eqb (groupNo folding i) k) e j l (eq-eqb _ _ y))
     go j l g (no y) = omega (arith, h .agrees j l (omega arith), picked-out (2 ^ n) (λ i. eqb (groupNo folding i) k) e j (ne-eqb _ _ y))
 
-module _ (n mask : ℕ) (cost : ℕ → ℕ → ℕ) (folding : ℕ) where
-  -- the empty word is a node's at every level
-  pub root : (k : ℕ) → Node n mask folding k 0
-  root k = record { allowed = permitted-zero n mask; undecided = λ j l g. bit-zero j }
+-- the empty word is a node's at every level
+pub root : (n mask folding k : ℕ) → Node n mask folding k 0
+root n mask folding k = record { allowed = permitted-zero n mask; undecided = λ j l g. bit-zero j }
 
+-- where every group is decided, the word is its only completion
+pub completes-all : (n mask folding d e : ℕ) → Node n mask folding 0 d → Completes n mask folding 0 d e → e ≡ d
+completes-all n mask folding d e v h =
+    bit-ext-below (2 ^ n) (permitted-lt n mask e (h .allowed)) (permitted-lt n mask d (v .allowed)) (λ j l. h .agrees j l zero-le)
+
+-- where no group is decided, every permitted word is a completion of the empty word
+pub completes-none : (n mask folding e : ℕ) → folding < 2 ^ n → permitted n mask e ≡ true → Completes n mask folding (groups n folding) 0 e
+completes-none n mask folding e fits t = record {
+  allowed = t;
+  agrees = λ j l g. absurd (omega (arith, groupNo-below n folding fits j l));
+}
+
+module _ (n mask : ℕ) (cost : ℕ → ℕ → ℕ) (folding : ℕ) where
   -- a leaf below a node completes its word, at the partial distance and the cost left
   pub leaf-completes : (k p d q e : ℕ) → Node n mask folding k d → Leaf (candidates n mask cost folding) k p d q e
       → Completes n mask folding k d e × (q ≡ p + costLeft n cost folding k e)
@@ -144,7 +156,10 @@ module _ (n mask : ℕ) (cost : ℕ → ℕ → ℕ) (folding : ℕ) where
   pub completion-leaf : (k p d e : ℕ) → Node n mask folding k d → Completes n mask folding k d e
       → Leaf (candidates n mask cost folding) k p d (p + costLeft n cost folding k e) e
   unfolding Leaf Under candidate
-  completion-leaf zero p d e v h = (omega (arith, left-zero n cost folding e), bit-ext-below (2 ^ n) (permitted-lt n mask e (h .allowed)) (permitted-lt n mask d (v .allowed)) (λ j l. h .agrees j l zero-le))
+  completion-leaf zero p d e v h = (
+    omega (arith, left-zero n cost folding e),
+    completes-all n mask folding d e v h,
+  )
   completion-leaf (suc k) p d e v h =
       let next = next-filling n mask folding k d e v h in
       let f : ℕ = next .0 in
@@ -159,14 +174,11 @@ module _ (n mask : ℕ) (cost : ℕ → ℕ → ℕ) (folding : ℕ) where
   pub leaf-permitted : folding < 2 ^ n → (q e : ℕ) → Leaf (candidates n mask cost folding) (groups n folding) 0 0 q e
       → (permitted n mask e ≡ true) × (q ≡ wordDistance n cost e)
   leaf-permitted fits q e l =
-      let h = leaf-completes (groups n folding) 0 0 q e (root (groups n folding)) l in
+      let h = leaf-completes (groups n folding) 0 0 q e (root n mask folding (groups n folding)) l in
       (h .0 .allowed, h .1 ∙ zero-add _ ∙ left-all n cost folding fits e)
 
   -- and every permitted word is a leaf
   pub permitted-leaf : folding < 2 ^ n → (e : ℕ) → permitted n mask e ≡ true
       → Leaf (candidates n mask cost folding) (groups n folding) 0 0 (wordDistance n cost e) e
   permitted-leaf fits e t = rw (zero-add _ ∙ left-all n cost folding fits e)
-      at (completion-leaf (groups n folding) 0 0 e (root (groups n folding)) (record {
-        allowed = t;
-        agrees = λ j l g. absurd (omega (arith, groupNo-below n folding fits j l));
-      }))
+      at (completion-leaf (groups n folding) 0 0 e (root n mask folding (groups n folding)) (completes-none n mask folding e fits t))

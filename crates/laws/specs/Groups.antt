@@ -2,6 +2,7 @@
 -- depends on.
 use Prim.Native.Nat.{ℕ, _-_, _%_, _^_, _≤_, _<_}
 use mathlib.Core.Path.{_≡_, refl, sym, _∙_, ap}
+use mathlib.Core.Logic.{_↔_}
 use mathlib.Core.Bool.{Bool, true, false, cond}
 use native.Mathlib.Decide.{decLt, ℕ-discrete}
 use native.Mathlib.Omega.{arith}
@@ -47,7 +48,7 @@ pub groupNo-lt : (folding i j : ℕ) → smallest folding i < smallest folding j
 unfolding groupNo
 groupNo-lt folding i j h = count-lt (λ k. eqb (smallest folding k) k) h (eq-eqb _ _ (smallest-twice folding i))
 
--- one number exactly where the smallest index is one: this half, and `groupNo-same` the other
+-- one number, one smallest index
 pub smallest-same : (folding i j : ℕ) → groupNo folding i ≡ groupNo folding j → smallest folding i ≡ smallest folding j
 smallest-same folding i j e = go (decLt (smallest folding i) (smallest folding j)) (decLt (smallest folding j) (smallest folding i))
   where
@@ -59,6 +60,19 @@ smallest-same folding i j e = go (decLt (smallest folding i) (smallest folding j
 -- one smallest index, one number
 pub groupNo-same : (folding i j : ℕ) → smallest folding i ≡ smallest folding j → groupNo folding i ≡ groupNo folding j
 groupNo-same folding i j e = omega (arith, groupNo-le folding i j (omega arith), groupNo-le folding j i (omega arith))
+
+-- a greater number has a greater smallest index
+pub smallest-lt : (folding i j : ℕ) → groupNo folding i < groupNo folding j → smallest folding i < smallest folding j
+smallest-lt folding i j h = go (decLt (smallest folding i) (smallest folding j))
+  where
+    go : Dec (smallest folding i < smallest folding j) → smallest folding i < smallest folding j
+    go (yes l) = l
+    go (no g) = absurd (omega (arith, groupNo-le folding j i (omega arith)))
+
+-- "Indices that agree outside the folding's bits make one group": one number exactly where they agree
+pub same-group : (folding i j : ℕ) → (groupNo folding i ≡ groupNo folding j) ↔ ((k : ℕ) → bit folding k ≡ 0 → bit i k ≡ bit j k)
+same-group folding i j =
+    (λ e. agree-of-smallest folding i j (smallest-same folding i j e), λ h. groupNo-same folding i j (smallest-of-agree folding i j h))
 
 -- an index that covers i is in no lower group
 pub covers-group : (folding i j : ℕ) → covers i j ≡ true → groupNo folding i ≤ groupNo folding j
