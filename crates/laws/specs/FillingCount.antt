@@ -1,4 +1,4 @@
--- How many fillings and candidates a group has: one where every index is frozen, else more; never none.
+-- How many fillings and candidates a group has: one where every index is frozen, else more.
 use Prim.Native.Nat.{ℕ, suc, _+_, _^_, _≤_}
 use mathlib.Core.Path.{_≡_, refl, sym, _∙_, ap}
 use mathlib.Core.Bool.{Bool, true, false, true≢false, _||_, cond}
@@ -30,7 +30,7 @@ twice : (mask i : ℕ) (is : List ℕ) → length (fillings mask is ++ map (λ f
 twice mask i is = length-append (fillings mask is) _ ∙ ap (λ (x : ℕ). length (fillings mask is) + x) (length-map (fillings mask is) _)
 
 -- a group has a filling
-pub some-filling : (mask : ℕ) (is : List ℕ) → 1 ≤ length (fillings mask is)
+some-filling : (mask : ℕ) (is : List ℕ) → 1 ≤ length (fillings mask is)
 unfolding fillings
 some-filling mask [] = le-refl 1
 some-filling mask (i ∷ is) = go (unfrozen mask i) (some-filling mask is)
