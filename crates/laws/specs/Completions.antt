@@ -18,7 +18,7 @@ use Rattle.laws.specs.BitsMore.{small-of-bits, picked, picked-in, picked
 use Rattle.laws.specs.BranchAndBound.{Leaf, Under}
 use Rattle.laws.specs.Groups.{codeBit-depends}
 use Rattle.laws.specs.GroupSizes.{groupNo-below, group-at, group-of}
-use Rattle.laws.specs.Permitted.{permitted-lt, permitted-at, permitted-of, permitted-zero}
+use Rattle.laws.specs.Permitted.{permitted-lt, permitted-at, permitted-ones, permitted-zero}
 use Rattle.laws.specs.Fillings.{Fills}
 use Rattle.laws.specs.Candidates.{candidates-at, candidates-of}
 use Rattle.laws.specs.Branches.{branch-cong, costLeft, left-zero, left-step, left-all}
@@ -54,7 +54,7 @@ node-add n mask folding k d f v h = bit-add d f (λ j. go j (ℕ-discrete (bit f
 -- and makes the word of a node one level down
 pub node-down : (n mask folding k d f : ℕ) → Node n mask folding (suc k) d → Fills mask (group n folding k) f → Node n mask folding k (d + f)
 node-down n mask folding k d f v h = record {
-  allowed = permitted-of n mask (d + f) (small-of-bits (2 ^ n) (d + f) (λ j l. beyond j l (ℕ-discrete (bit f j) 0)))
+  allowed = permitted-ones n mask (d + f) (small-of-bits (2 ^ n) (d + f) (λ j l. beyond j l (ℕ-discrete (bit f j) 0)))
       (λ j b. free j b (ℕ-discrete (bit f j) 0));
   undecided = λ j l g. node-add n mask folding k d f v h j
       ∙ omega (arith, v .undecided j l (omega arith), fill-zero n mask folding k f j h (omega arith));

@@ -15,8 +15,9 @@ use lib.ListN.{length}
 use borrow.Author.Tests.{eq-eqb, ne-eqb, eqb-true}
 use Rattle.rules.specs.Below.{sumBelow, countBelow}
 use Rattle.rules.specs.Folding.{smallest, groupNo, group, groups}
-use Rattle.laws.specs.Sums.{sum-cong, sum-const, sum-mul, sum-single, sum-swap, count-lt, mem-at, mem-of}
-use Rattle.laws.specs.SumsMore.{count-cong, count-find, length-list, sum-pairs}
+use Rattle.laws.specs.Sums.{sum-cong, sum-const, sum-mul, sum-single, sum-swap, mem-at, mem-of}
+use Rattle.laws.specs.SumsMore.{count-cong, length-list, sum-pairs}
+use Rattle.laws.specs.Places.{count-rises, count-onto}
 use Rattle.laws.specs.SortedLists.{Rising, list-rising}
 use Rattle.laws.specs.Groups.{smallest-twice, smallest-same, groupNo-same}
 
@@ -86,12 +87,12 @@ module _ (n folding : ℕ) (fits : folding < 2 ^ n) where
 
   no-lt : (i : ℕ) → i < 2 ^ n → groupNo folding i < heads
   unfolding groupNo heads
-  no-lt i l = count-lt (λ j. eqb (smallest folding j) j) (omega arith) (eq-eqb _ _ (smallest-twice folding i))
+  no-lt i l = count-rises (λ j. eqb (smallest folding j) j) (omega arith) (eq-eqb _ _ (smallest-twice folding i))
 
   head : (k : ℕ) → k < heads → (h : ℕ) × (h < 2 ^ n) × (smallest folding h ≡ h) × (groupNo folding h ≡ k)
   unfolding groupNo heads
   head k l =
-      let r = count-find (2 ^ n) (λ i. eqb (smallest folding i) i) k l in
+      let r = count-onto (λ i. eqb (smallest folding i) i) (2 ^ n) k l in
       let e : smallest folding (r .0) ≡ r .0 = eqb-true _ _ (r .2) in (r .0, r .1, e, rw e (r .3))
 
   no-size : (k : ℕ) → k < heads → countBelow (2 ^ n) (λ i. eqb (groupNo folding i) k) ≡ 2 ^ ones folding

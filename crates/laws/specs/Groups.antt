@@ -11,7 +11,8 @@ use lib.Dec.{eqb}
 use borrow.Author.Tests.{eq-eqb}
 use Rattle.rules.specs.Word.{bit, covers, codeBit}
 use Rattle.rules.specs.Folding.{smallest, groupNo}
-use Rattle.laws.specs.Sums.{sum-cong, count-mono, count-lt}
+use Rattle.laws.specs.Sums.{sum-cong}
+use Rattle.laws.specs.Places.{count-mono, count-rises}
 use Rattle.laws.specs.Bits.{bit-lt-two, bit-ext, bit-and, bit-xor, covers-at, covers-of, covers-le}
 
 -- the smallest index of a group has the index's bits outside the folding alone
@@ -46,7 +47,7 @@ groupNo-le folding i j h = count-mono (λ k. eqb (smallest folding k) k) h
 -- a greater smallest index has a greater number
 pub groupNo-lt : (folding i j : ℕ) → smallest folding i < smallest folding j → groupNo folding i < groupNo folding j
 unfolding groupNo
-groupNo-lt folding i j h = count-lt (λ k. eqb (smallest folding k) k) h (eq-eqb _ _ (smallest-twice folding i))
+groupNo-lt folding i j h = count-rises (λ k. eqb (smallest folding k) k) h (eq-eqb _ _ (smallest-twice folding i))
 
 -- one number, one smallest index
 pub smallest-same : (folding i j : ℕ) → groupNo folding i ≡ groupNo folding j → smallest folding i ≡ smallest folding j

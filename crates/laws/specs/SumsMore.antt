@@ -3,8 +3,6 @@ use Prim.Native.Nat.{ℕ, zero, suc, _+_, _*_, _<_}
 use mathlib.Core.Path.{_≡_, refl, _∙_, ap}
 use mathlib.Core.Bool.{Bool, true, false, cond}
 use mathlib.Core.List.{[], _∷_}
-use native.Mathlib.Nat.{le-refl, not-suc-le-zero}
-use native.Mathlib.Decide.{decLt}
 use native.Mathlib.Numerals.{add-one}
 use native.Mathlib.Omega.{arith}
 use lib.ListN.{length, length-append}
@@ -15,19 +13,6 @@ use Rattle.laws.specs.Sums.{sum-cong}
 pub count-cong : (m : ℕ) (a b : ℕ → Bool) → ((i : ℕ) → i < m → a i ≡ b i) → countBelow m a ≡ countBelow m b
 unfolding countBelow
 count-cong m a b h = sum-cong m (λ i l. ap (λ (t : Bool). cond t 1 0) (h i l))
-
--- each smaller count is that of a number that passes
-pub count-find : (m : ℕ) (test : ℕ → Bool) (k : ℕ) → k < countBelow m test → (i : ℕ) × (i < m) × (test i ≡ true) × (countBelow i test ≡ k)
-unfolding countBelow sumBelow
-count-find zero test k h = absurd (not-suc-le-zero h)
-count-find (suc m) test k h = go (test m) refl (decLt k (countBelow m test)) (count-find m test k)
-  where
-    go : (t : Bool) → test m ≡ t → Dec (k < countBelow m test)
-        → (k < countBelow m test → (i : ℕ) × (i < m) × (test i ≡ true) × (countBelow i test ≡ k))
-        → (i : ℕ) × (i < suc m) × (test i ≡ true) × (countBelow i test ≡ k)
-    go t e (yes l) below = let r = below l in (r .0, omega arith, r .2, r .3)
-    go true e (no n) below = let b : countBelow (suc m) test ≡ countBelow m test + 1 = rw e in (m, le-refl _, e, omega arith)
-    go false e (no n) below = let b : countBelow (suc m) test ≡ countBelow m test + 0 = rw e in absurd (n (omega arith))
 
 -- the list of the numbers that pass is as long as their count
 pub length-list : (m : ℕ) (test : ℕ → Bool) → length (listBelow m test) ≡ countBelow m test
