@@ -1,8 +1,8 @@
 -- Demand 3: below the guard the least word is the word sent; at the guard it need not be.
 use Prim.Native.Nat.{ℕ, _*_, _^_, _≤_, _<_}
-use mathlib.Core.Path.{_≡_, refl, sym, ap, _∙_}
+use mathlib.Core.Path.{_≡_, sym, ap, _∙_}
 use mathlib.Core.Logic.{_≢_}
-use mathlib.Core.Bool.{Bool, true, false, cond}
+use mathlib.Core.Bool.{true}
 use mathlib.Core.Option.{some}
 use mathlib.Core.List.{List}
 use native.Mathlib.Nat.{le-refl, le-of-lt}
@@ -14,8 +14,6 @@ use lib.Pow.{pow-pos}
 use Rattle.rules.specs.Word.{codeword, permitted, spread, gather}
 use Rattle.rules.specs.Level.{inRange, levelAt, levelCost, wordDistance, Least}
 use Rattle.rules.specs.Guard.{guardOf}
-use Rattle.laws.specs.Bits.{bit-zero, bit-pow-same, bit-pow-other}
-use Rattle.laws.specs.Sums.{sum-zero, sum-single}
 use Rattle.laws.specs.Weight.{weight-single}
 use Rattle.laws.specs.Permitted.{permitted-pow}
 use Rattle.laws.specs.Message.{spread-gather, gather-zero, spread-zero}

@@ -5,10 +5,10 @@ use mathlib.Core.Logic.{_≢_, _⊎_, inl, inr}
 use mathlib.Core.Bool.{Bool, true, false, _&&_, cond}
 use mathlib.Core.Option.{Option, none, some, Option·none-ne-some}
 use mathlib.Core.List.{[], _∷_, _++_, List·Memᴰ, List·Memᴰ·head, Memᴰ·append-left, Memᴰ·append-right, List·Memᴰ·append-cases, List·Memᴰ·eq-of-singleton, List·Memᴰ·not-nil}
-use native.Mathlib.Nat.{add-zero, add-suc, zero-mul, suc-mul, mul-add, add-le-add, not-suc-le-zero, le-dest, lt-of-lt-of-le}
+use native.Mathlib.Nat.{add-zero, add-suc, zero-mul, suc-mul, mul-add, add-le-add, not-suc-le-zero}
 use native.Mathlib.Decide.{ℕ-discrete}
 use native.Mathlib.Omega.{arith}
-use Rattle.rules.specs.Below.{sumBelow, countBelow, allBelow, firstBelow, listBelow, orElse}
+use Rattle.rules.specs.Below.{sumBelow, allBelow, firstBelow, listBelow, orElse}
 
 -- sums of functions that agree below m
 pub sum-cong : (m : ℕ) {f g : ℕ → ℕ} → ((i : ℕ) → i < m → f i ≡ g i) → sumBelow m f ≡ sumBelow m g
@@ -73,18 +73,6 @@ pub sum-swap : (a b : ℕ) (f : ℕ → ℕ → ℕ) → sumBelow a (λ i. sumBe
 unfolding sumBelow
 sum-swap zero b f = sym (sum-zero b (λ i l. refl))
 sum-swap (suc a) b f = rw (sum-swap a b f) (sym (sum-add b (λ j. sumBelow a (λ i. f i j)) (f a)))
-
--- no fewer numbers pass below a greater bound
-pub count-mono : {a b : ℕ} (test : ℕ → Bool) → a ≤ b → countBelow a test ≤ countBelow b test
-unfolding countBelow
-count-mono {a} test l =
-    let r = le-dest l in
-    rw (← r .1, sum-split a (r .0) (λ i. cond (test i) 1 0)) (omega arith)
-
--- past a number that passes, more do
-pub count-lt : {i m : ℕ} (test : ℕ → Bool) → i < m → test i ≡ true → countBelow i test < countBelow m test
-unfolding countBelow sumBelow
-count-lt {i} test l e = lt-of-lt-of-le (rw e (omega arith)) (count-mono test l)
 
 -- where every number passes, each does
 pub all-at : (m : ℕ) (test : ℕ → Bool) → allBelow m test ≡ true → (i : ℕ) → i < m → test i ≡ true
