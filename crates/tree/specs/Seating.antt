@@ -1,0 +1,25 @@
+-- What the steps that build the seats ask of the indices so far.
+use Prim.Native.Nat.{ℕ, _+_, _*_, _^_, _≤_, _<_}
+use mathlib.Core.List.{List}
+use mathlib.Core.Path.{_≡_}
+use lib.ListN.{length, getD}
+use Rattle.rules.specs.Below.{countBelow}
+use Rattle.laws.specs.Seats.{hasBit}
+
+-- the first m of a list are at most c
+abbrev pub AtMost : List ℕ → ℕ → ℕ → Type 0
+AtMost l m c = (q : ℕ) → q < m → getD l q 0 ≤ c
+
+-- m indices can be widened by a step
+pub record Widens (l : List ℕ) (m step : ℕ) : Type 0 where
+  pub long : length l ≡ 64
+  pub room : m + m ≤ 64
+  pub small : AtMost l m 4096
+  pub short : step ≤ 64
+
+-- m indices can be widened by each bit of the folding below n that has the value wanted
+pub record WidensBy (l : List ℕ) (m n folding wanted : ℕ) : Type 0 where
+  pub long : length l ≡ 64
+  pub room : m * 2 ^ countBelow n (hasBit folding wanted) ≤ 64
+  pub small : AtMost l m 1024
+  pub few : n ≤ 6
