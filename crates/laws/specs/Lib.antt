@@ -32,3 +32,5 @@ pub mod Demand3
 pub mod FillingCount
 pub mod CleanBlock
 pub mod GreatestDistance
+pub mod Placed
+pub mod Deposits
