@@ -1,12 +1,13 @@
 -- A number's bits, lowest first, put at the places below m that pass a test.
-use Prim.Native.Nat.{ℕ, zero, suc, _*_, _^_, _≤_, _<_}
+use Prim.Native.Nat.{ℕ, suc, _+_, _*_, _^_, _≤_, _<_}
 use mathlib.Core.Path.{_≡_, refl, sym, _∙_}
 use mathlib.Core.Bool.{Bool, true, false, cond}
+use native.Mathlib.Nat.{one-mul}
 use native.Mathlib.Decide.{decLt}
 use native.Mathlib.Omega.{arith}
 use Rattle.rules.specs.Below.{sumBelow, countBelow}
 use Rattle.rules.specs.Word.{bit}
-use Rattle.laws.specs.Bits.{bit-lt-two, bit-beyond, bit-within, word-lt, word-bit}
+use Rattle.laws.specs.Bits.{bit-lt-two, bit-beyond, bit-within, bit-low, bit-ext-below, word-lt, word-bit}
 use Rattle.laws.specs.Highest.{Highest, highest-lt, highest-of}
 use Rattle.laws.specs.Places.{count-rises, count-onto}
 
@@ -56,3 +57,21 @@ module _ (test : ℕ → Bool) (m : ℕ) where
         deposit-bit r (at .0) (at .1) ∙ rw (at .2, at .3) (top .1 .1),
         λ i k. same-bit q r i (λ u. top .1 .2 (countBelow i test) (rw (at .3) at (count-rises test k (at .2)))),
       )
+
+  -- a one above the places that are there changes nothing
+  pub deposit-above : (q : ℕ) → q < 2 ^ countBelow m test → deposit test m (2 ^ countBelow m test + q) ≡ deposit test m q
+  deposit-above q h =
+      bit-ext-below m (deposit-lt _) (deposit-lt q) (λ i l. same-bit (2 ^ countBelow m test + q) q i (λ t. lower (countBelow i test) (count-rises test l t)))
+    where
+      lower : (k : ℕ) → k < countBelow m test → bit (2 ^ countBelow m test + q) k ≡ bit q k
+      lower k l = rw one-mul at (bit-low 1 (countBelow m test) h k l)
+
+  -- one more place, which passes
+  pub deposit-passing : (q : ℕ) → test m ≡ true → deposit test (suc m) q ≡ deposit test m q + bit q (countBelow m test) * 2 ^ m
+  unfolding deposit sumBelow
+  deposit-passing q t = rw t
+
+  -- or fails
+  pub deposit-failing : (q : ℕ) → test m ≡ false → deposit test (suc m) q ≡ deposit test m q
+  unfolding deposit sumBelow
+  deposit-failing q t = rw t (omega arith)

@@ -34,3 +34,5 @@ pub mod CleanBlock
 pub mod GreatestDistance
 pub mod Placed
 pub mod Deposits
+pub mod Seats
+pub mod SeatGroups
