@@ -36,3 +36,4 @@ pub mod Placed
 pub mod Deposits
 pub mod Seats
 pub mod SeatGroups
+pub mod SeatWords
