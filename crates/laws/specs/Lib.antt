@@ -37,3 +37,4 @@ pub mod Deposits
 pub mod Seats
 pub mod SeatGroups
 pub mod SeatWords
+pub mod Blocks
