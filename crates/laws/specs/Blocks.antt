@@ -4,7 +4,7 @@ use Prim.Native.Nat.{ℕ, zero, suc, _+_, _-_, _*_, _/_, _%_, _^_, _≤_, _<_, z
 use mathlib.Core.Path.{_≡_, refl, sym, ap, ap₂, _∙_}
 use mathlib.Core.Logic.{_≢_}
 use mathlib.Core.Bool.{Bool, true, false, _&&_, cond}
-use native.Mathlib.Nat.{zero-mul, mul-zero, one-mul, suc-mul, mul-comm, mul-assoc, mul-left-comm, sub-add-cancel, mul-le-mul-right, add-zero}
+use native.Mathlib.Nat.{zero-mul, mul-zero, one-mul, suc-mul, mul-comm, mul-left-comm, sub-add-cancel, mul-le-mul-right, add-zero}
 use native.Mathlib.Decide.{decLt}
 use native.Mathlib.Omega.{arith}
 use lib.Pow.{pow-pos, pow-add, pow-lt, shl-lt}

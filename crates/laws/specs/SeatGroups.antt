@@ -13,7 +13,7 @@ use lib.Seq.{getD-take, getD-drop, ext-getD}
 use Rattle.rules.specs.Below.{countBelow, listBelow}
 use Rattle.rules.specs.Folding.{smallest, groupNo, group, groups}
 use Rattle.laws.specs.Sums.{mem-at, mem-of}
-use Rattle.laws.specs.SortedLists.{Rising, list-rising, rising-map, rising-unique, mem-map-at, mem-map-of}
+use Rattle.laws.specs.SortedLists.{list-rising, rising-map, rising-unique, mem-map-at, mem-map-of}
 use Rattle.laws.specs.Each.{each-at}
 use Rattle.laws.specs.Groups.{smallest-twice, groupNo-lt, groupNo-same}
 use Rattle.laws.specs.GroupSizes.{groups-all, groupNo-below, group-length, group-at, group-of, group-rising}

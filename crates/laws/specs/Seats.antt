@@ -5,20 +5,20 @@ use mathlib.Core.Path.{_≡_, refl, sym, ap, _∙_}
 use mathlib.Core.Bool.{Bool, true, false, cond}
 use mathlib.Core.List.{List, [], _∷_, _++_, map}
 use mathlib.Core.Logic.{_⊎_, inl, inr, ⊎-elim}
-use native.Mathlib.Nat.{add-zero, zero-add, mod-lt, mul-one, one-mul, not-suc-le-zero, mul-add, add-mul, mul-comm, add-div-left, div-eq-of-lt, le-dest, add-comm, le-refl, two-pow-succ}
-use native.Mathlib.Decide.{decLt, ℕ-discrete}
+use native.Mathlib.Nat.{add-zero, zero-add, mod-lt, mul-one, one-mul, not-suc-le-zero, mul-add, add-mul, mul-comm, add-div-left, div-eq-of-lt, le-dest, le-refl, two-pow-succ}
+use native.Mathlib.Decide.{decLt}
 use native.Mathlib.Omega.{arith}
 use lib.Pow.{pow-pos, pow-add, shr-lt, split}
 use lib.Arith.{digits-lt}
 use lib.Count.{ones}
 use lib.Dec.{eqb}
-use lib.ListN.{length, getD, take, drop, length-append, length-map, List·getD-append}
+use lib.ListN.{length, getD, length-append, length-map, List·getD-append}
 use lib.Seq.{getD-append-add}
 use borrow.Author.Tests.{eq-eqb, eqb-true}
 use Rattle.rules.specs.Below.{sumBelow, countBelow}
 use Rattle.rules.specs.Word.{bit, covers}
-use Rattle.rules.specs.Folding.{smallest, groupNo, group, groups}
-use Rattle.laws.specs.Deposits.{depositBit, deposit, deposit-lt, deposit-bit, deposit-rises, deposit-above, deposit-passing, deposit-failing}
+use Rattle.rules.specs.Folding.{smallest}
+use Rattle.laws.specs.Deposits.{deposit, deposit-lt, deposit-bit, deposit-above, deposit-passing, deposit-failing}
 use Rattle.laws.specs.Bits.{bit-lt-two, bit-beyond, bit-add, bit-mod, bit-div, bit-ext-below, covers-at, covers-of, covers-refl, covers-antisym}
 use Rattle.laws.specs.Groups.{smallest-bit}
 use Rattle.laws.specs.Placed.{Apart, placed-at, placed-other}
@@ -110,7 +110,7 @@ abbrev place : ℕ → ℕ → ℕ
 place F i = cond (hasBit F 1 i) (countBelow i (hasBit F 1)) (ones F + countBelow i (hasBit F 0))
 
 -- what a seat's low bits and its high bits give to the index
-abbrev pub inPart : ℕ → ℕ → ℕ → ℕ
+abbrev inPart : ℕ → ℕ → ℕ → ℕ
 inPart n F p = deposit (hasBit F 1) n (p % 2 ^ ones F)
 
 abbrev pub outPart : ℕ → ℕ → ℕ → ℕ
@@ -130,7 +130,7 @@ same-bool false true f g = g refl
 same-bool false false f g = refl
 
 module _ (n F : ℕ) (fits : F < 2 ^ n) where
-  -- the low bits of a seat
+  -- a seat has as many low bits as the folding has ones
   pub ones-count : countBelow n (hasBit F 1) ≡ ones F
   unfolding countBelow
   ones-count = sum-cong n (λ i l. ⊎-elim (λ (e : bit F i ≡ 0). rw e) (λ (e : bit F i ≡ 1). rw e) (bit-kind F i)) ∙ sym (ones-sum n F fits)
@@ -141,7 +141,7 @@ module _ (n F : ℕ) (fits : F < 2 ^ n) where
       rw (ones-sum n F fits, ← sum-add n _ (bit F))
       (sum-cong n (λ i l. ⊎-elim (λ (e : bit F i ≡ 0). rw e) (λ (e : bit F i ≡ 1). rw e) (bit-kind F i)) ∙ sum-const n 1 ∙ mul-one n)
 
-  -- the high bits of a seat
+  -- and the high bits make it n
   pub high-size : 2 ^ countBelow n (hasBit F 0) * 2 ^ ones F ≡ 2 ^ n
   high-size = sym (pow-add 2 (countBelow n (hasBit F 0)) (ones F)) ∙ ap (λ (x : ℕ). 2 ^ x) zeros-count
 
@@ -149,7 +149,7 @@ module _ (n F : ℕ) (fits : F < 2 ^ n) where
   pub inside-length : length (widenedBy (hasBit F 1) n (0 ∷ [])) ≡ 2 ^ ones F
   inside-length = widened-by-length (hasBit F 1) n (0 ∷ []) ∙ rw ones-count (one-mul _)
 
-  -- every index has a seat
+  -- there are 2 ^ n seats
   pub seats-length : length (seats n F) ≡ 2 ^ n
   unfolding seats
   seats-length = widened-by-length (hasBit F 0) n _ ∙ rw inside-length (mul-comm _ _ ∙ high-size)
@@ -246,7 +246,9 @@ module _ (n F : ℕ) (fits : F < 2 ^ n) where
       small : p < 2 ^ n
       small = small-of-bits n p (λ j g. placed-other (place F) (bit i) (bit-lt-two i) n place-apart j (λ k l e. omega (arith, place-below k l)))
 
-  -- the smallest index of the group at a seat is that of the seat's high bits
+  -- the smallest index of the group at a seat is what the seat's high bits give
   pub seat-smallest : (p : ℕ) → p < 2 ^ n → smallest F (seatIndex n F p) ≡ outPart n F p
-  seat-smallest p l = bit-ext-below n (omega (arith, seat-below p l)) (deposit-lt (hasBit F 0) n (p / 2 ^ ones F)) (λ i h. smallest-bit F (seatIndex n F p) i ∙ rw (seat-bit-parts p l i, deposit-bit (hasBit F 1) n (p % 2 ^ ones F) i h, deposit-bit (hasBit F 0) n (p / 2 ^ ones F) i h)
+  seat-smallest p l = bit-ext-below n (omega (arith, seat-below p l)) (deposit-lt (hasBit F 0) n (p / 2 ^ ones F)) (λ i h.
+      smallest-bit F (seatIndex n F p) i
+      ∙ rw (seat-bit-parts p l i, deposit-bit (hasBit F 1) n (p % 2 ^ ones F) i h, deposit-bit (hasBit F 0) n (p / 2 ^ ones F) i h)
       (⊎-elim (λ (e : bit F i ≡ 0). rw e (omega arith)) (λ (e : bit F i ≡ 1). rw e (omega arith)) (bit-kind F i)))
