@@ -94,9 +94,9 @@ module _ (n F : ℕ) (fits : F < 2 ^ n) where
   pub unseat-code-bit : (w p : ℕ) → p < 2 ^ n → codeBit n (unseat n F w) (seatIndex n F p) ≡ codeBit n w p
   unfolding codeBit
   unseat-code-bit w p l = ap (λ (x : ℕ). x % 2) (
-    sym (sum-permuted (2 ^ n) (seatIndex n F) (seat-below n F fits) (apart (2 ^ n) (le-refl _)) (seat-onto n F fits)
-    (λ j. cond (covers (seatIndex n F p) j) (bit (unseat n F w) j) 0))
-    ∙ sum-cong (2 ^ n) (λ q h. ap₂ (λ (t : Bool) (b : ℕ). cond t b 0) (seat-covers n F fits p q l h) (unseat-bit w q h)))
+      sym (sum-permuted (2 ^ n) (seatIndex n F) (seat-below n F fits) (apart (2 ^ n) (le-refl _)) (seat-onto n F fits)
+      (λ j. cond (covers (seatIndex n F p) j) (bit (unseat n F w) j) 0))
+      ∙ sum-cong (2 ^ n) (λ q h. ap₂ (λ (t : Bool) (b : ℕ). cond t b 0) (seat-covers n F fits p q l h) (unseat-bit w q h)))
 
   -- the matrix map in seat order
   pub codeword-unseat : (w : ℕ) → codeword n (unseat n F w) ≡ unseat n F (codeword n w)
