@@ -34,3 +34,7 @@ pub mod CleanBlock
 pub mod GreatestDistance
 pub mod Seats
 pub mod SeatWords
+pub mod Placed
+pub mod Deposits
+pub mod SeatGroups
+pub mod Blocks
