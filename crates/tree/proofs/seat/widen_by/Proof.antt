@@ -80,7 +80,7 @@ returns : tie.Need-returns Inv-loop μ-loop
 returns c =
     let last : c .before .loop .b ≡ c .before .before .before .args .n = omega arith in
     let all = c .before .loop .inv .1 in
-    ((rw last at (all .counted)), (rw last at (all .listed)), (rw last at (all .small)))
+    ((rw last at (all .counted)), ((rw last at (all .listed)), (rw last at (all .small))))
 
 pub widen-by-spec : {M : Type 1} → statement M
 widen-by-spec =
