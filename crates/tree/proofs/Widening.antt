@@ -1,11 +1,11 @@
 -- Widening a list of indices in place, one element after another.
-use Prim.Native.Nat.{ℕ, zero, suc, _+_, _*_, _≤_, _<_, min}
+use Prim.Native.Nat.{ℕ, _+_, _≤_, _<_}
 use mathlib.Core.Path.{_≡_, refl, sym, ap, ap₂, _∙_}
 use mathlib.Core.List.{List, [], _∷_, _++_, map, append-assoc, append-nil}
 use native.Mathlib.Nat.{add-suc, add-zero}
 use native.Mathlib.Numerals.{add-one}
 use native.Mathlib.Omega.{arith}
-use lib.ListN.{length, take, getD, set, length-take, length-map, List·getD-map, List·getD-append}
+use lib.ListN.{length, take, getD, set, length-map, List·getD-map, List·getD-append}
 use lib.Seq.{take-suc, take-suc-set, take-all, getD-take, length-take-le}
 use Rattle.laws.specs.Seats.{widened}
 

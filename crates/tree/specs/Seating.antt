@@ -2,9 +2,11 @@
 use Prim.Native.Nat.{ℕ, _+_, _*_, _^_, _≤_, _<_}
 use mathlib.Core.List.{List}
 use mathlib.Core.Path.{_≡_}
-use lib.ListN.{length, getD}
+use lib.ListN.{length, getD, take}
 use Rattle.rules.specs.Below.{countBelow}
-use Rattle.laws.specs.Seats.{hasBit}
+use Rattle.rules.specs.Word.{codeword}
+use Rattle.rules.specs.Refusals.{largest}
+use Rattle.laws.specs.Seats.{hasBit, seats}
 
 -- the first m of a list are at most c
 abbrev pub AtMost : List ℕ → ℕ → ℕ → Type 0
@@ -23,3 +25,13 @@ pub record WidensBy (l : List ℕ) (m n folding wanted : ℕ) : Type 0 where
   pub room : m * 2 ^ countBelow n (hasBit folding wanted) ≤ 64
   pub small : AtMost l m 1024
   pub few : n ≤ 6
+
+-- a list holds the index at each seat
+pub record Seated (l : List ℕ) (n folding : ℕ) : Type 0 where
+  pub few : n ≤ 6
+  pub fits : folding < 2 ^ n
+  pub listed : take (2 ^ n) l ≡ seats n folding
+
+-- for each of the groups, a one at the first seat of each group that it covers
+abbrev pub Covered : List ℕ → ℕ → ℕ → Type 0
+Covered l groups size = (k : ℕ) → k < groups → getD l k 0 ≡ codeword largest (2 ^ (k * size))

@@ -51,8 +51,14 @@ returns c =
       c .before .widen-by2 .ensures .0
       ∙ all-seats n folding _ (c .before .before .before .before .before .before .pre .1) (c .before .before .before .before .widen-by .ensures .0)
     in
-    ap (λ (m : ℕ). take m (c .before .widen-by2 .last .0)) (sym all) ∙ c .before .widen-by2 .ensures .1 .0
-    ∙ ap (widenedBy (hasBit folding 0) n) (c .before .before .before .before .widen-by .ensures .1 .0)
+    let given = c .before .before .before .before .before .before .pre in
+    record {
+      few = given .0;
+      fits = given .1;
+      listed =
+        ap (λ (m : ℕ). take m (c .before .widen-by2 .last .0)) (sym all) ∙ c .before .widen-by2 .ensures .1 .0
+        ∙ ap (widenedBy (hasBit folding 0) n) (c .before .before .before .before .widen-by .ensures .1 .0)
+    }
 
 pub seats-spec : {M : Type 1} → statement M
 seats-spec =

@@ -1,8 +1,7 @@
 -- `tree::seat::widen` meets its contract: each turn copies one index behind the first m.
-use Prim.Native.Nat.{_-_, _+_, _≤_}
-use mathlib.Core.Path.{_≡_, sym, ap}
+use Prim.Native.Nat.{_-_}
+use mathlib.Core.Path.{_≡_}
 use native.Mathlib.Omega.{arith}
-use lib.ListN.{length, take}
 use Rattle.tree.proofs.Widening.{Turns, no-turn, still, one-turn, all-turns}
 use Rattle.tree.proofs.seat.widen.Statement.{statement}
 use Rattle.tree.proofs.seat.widen.Tie as tie
