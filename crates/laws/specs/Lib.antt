@@ -38,3 +38,4 @@ pub mod Placed
 pub mod Deposits
 pub mod SeatGroups
 pub mod Blocks
+pub mod SeatedRow

@@ -1,1 +1,3 @@
 pub mod Seating
+pub mod Tables
+pub mod States

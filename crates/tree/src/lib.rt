@@ -1,2 +1,3 @@
 // Decoding by the folded tree.
 mod seat;
+mod state;
