@@ -3,6 +3,7 @@ pub mod Sums
 pub mod Bits
 pub mod SumsMore
 pub mod SortedLists
+pub mod SortedRows
 pub mod BranchAndBound
 pub mod Allowance
 pub mod Groups
