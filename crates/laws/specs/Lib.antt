@@ -39,3 +39,6 @@ pub mod Placed
 pub mod Deposits
 pub mod SeatGroups
 pub mod Blocks
+pub mod SeatedDown
+pub mod SeatedFillings
+pub mod SeatedRow
