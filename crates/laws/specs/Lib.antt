@@ -42,3 +42,4 @@ pub mod Blocks
 pub mod SeatedDown
 pub mod SeatedFillings
 pub mod SeatedRow
+pub mod SeatedWalk
