@@ -23,18 +23,23 @@ sum-blocks zero s g = rw (zero-mul s)
 sum-blocks (suc L) s g = rw (suc-mul L s, sum-split (L * s) s g, sum-blocks L s g)
 
 -- the bits of block k
-block-same : (s k v t : ℕ) → bit (v * 2 ^ (k * s)) (k * s + t) ≡ bit v t
+pub block-same : (s k v t : ℕ) → bit (v * 2 ^ (k * s)) (k * s + t) ≡ bit v t
 block-same s k v t = rw add-zero at (bit-high v (k * s) (pow-pos (k * s)) t)
 
-block-above : (s k v i : ℕ) → v < 2 ^ s → suc k * s ≤ i → bit (v * 2 ^ (k * s)) i ≡ 0
+-- no bit below block k is one
+pub block-below : (s k v i : ℕ) → i < k * s → bit (v * 2 ^ (k * s)) i ≡ 0
+block-below s k v i l = rw add-zero at (bit-low v (k * s) (pow-pos (k * s)) i l) ∙ bit-zero i
+
+-- nor any above it
+pub block-above : (s k v i : ℕ) → v < 2 ^ s → suc k * s ≤ i → bit (v * 2 ^ (k * s)) i ≡ 0
 block-above s k v i hv l = bit-beyond (shl-lt s (k * s) hv) (omega (arith, suc-mul k s))
 
 -- no other block has a one
-block-other : (s k v b t : ℕ) → v < 2 ^ s → t < s → b ≢ k → bit (v * 2 ^ (k * s)) (b * s + t) ≡ 0
+pub block-other : (s k v b t : ℕ) → v < 2 ^ s → t < s → b ≢ k → bit (v * 2 ^ (k * s)) (b * s + t) ≡ 0
 block-other s k v b t hv ht n = go (decLt b k)
   where
     go : Dec (b < k) → bit (v * 2 ^ (k * s)) (b * s + t) ≡ 0
-    go (yes l) = rw add-zero at (bit-low v (k * s) (pow-pos (k * s)) (b * s + t) (digits-lt l ht)) ∙ bit-zero (b * s + t)
+    go (yes l) = block-below s k v (b * s + t) (digits-lt l ht)
     go (no g) = block-above s k v (b * s + t) hv (omega (arith, mul-le-mul-right {m = suc k} {n = b} s (omega arith)))
 
 codeword-one : (f : ℕ) → codeword f 1 ≡ 1

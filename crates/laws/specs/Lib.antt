@@ -3,6 +3,7 @@ pub mod Sums
 pub mod Bits
 pub mod SumsMore
 pub mod SortedLists
+pub mod SortedRows
 pub mod BranchAndBound
 pub mod Allowance
 pub mod Groups
@@ -39,3 +40,6 @@ pub mod Deposits
 pub mod SeatGroups
 pub mod Blocks
 pub mod SeatedRow
+pub mod SeatedDown
+pub mod SeatedFillings
+pub mod SeatedWalk

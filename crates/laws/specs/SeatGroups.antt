@@ -36,7 +36,8 @@ module _ (n F : ℕ) (fits : F < 2 ^ n) where
   groups-pow : groups n F ≡ 2 ^ countBelow n (hasBit F 0)
   groups-pow = eq-of-mul-eq-mul-right (2 ^ ones F) (pow-pos (ones F)) _ _ (groups-all n F fits ∙ sym (high-size n F fits))
 
-  seat-lt : (k t : ℕ) → k < groups n F → t < 2 ^ ones F → k * 2 ^ ones F + t < 2 ^ n
+  -- there is a seat for each place of a group
+  pub seat-lt : (k t : ℕ) → k < groups n F → t < 2 ^ ones F → k * 2 ^ ones F + t < 2 ^ n
   seat-lt k t hk ht = rw (groups-all n F fits) at (digits-lt hk ht)
 
   -- the number of the group of that smallest index
