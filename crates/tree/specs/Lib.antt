@@ -1,3 +1,4 @@
 pub mod Seating
 pub mod Tables
 pub mod States
+pub mod Nodes

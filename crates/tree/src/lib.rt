@@ -1,3 +1,4 @@
 // Decoding by the folded tree.
 mod seat;
 mod state;
+mod walk;
