@@ -26,7 +26,7 @@ use Rattle.laws.specs.Candidates.{Before, candidates-at, candidates-of}
 use Rattle.laws.specs.Completions.{Node}
 use Rattle.laws.specs.Patterns.{candidates-unique}
 use Rattle.laws.specs.Seats.{seatIndex}
-use Rattle.laws.specs.SeatGroups.{seat-lt, group-seat}
+use Rattle.laws.specs.SeatGroups.{group-seat-lt, group-seat}
 use Rattle.laws.specs.SeatWords.{seat, unseat, unseat-code-bit}
 use Rattle.laws.specs.Blocks.{block-decided}
 use Rattle.laws.specs.SeatedDown.{groups-blocks, seated-down}
@@ -72,7 +72,8 @@ module _ (n F s k forced shut : ℕ) where
       go : (t : Bool) → isOpen shut forced e ≡ t → List·Memᴰ c (cond t (entryCandidate n F s k forced e ∷ others) others)
           → (List·Memᴰ c others → (e : ℕ) × List·Memᴰ e es × (isOpen shut forced e ≡ true) × (c ≡ entryCandidate n F s k forced e))
           → (x : ℕ) × List·Memᴰ x (e ∷ es) × (isOpen shut forced x ≡ true) × (c ≡ entryCandidate n F s k forced x)
-      go true t m below = ⊎-elim (λ i. (e, List·Memᴰ·head refl, t, i)) (λ i. let r = below i in (r .0, List·Memᴰ·tail (r .1), r .2, r .3)) (List·Memᴰ·cases-cons m)
+      go true t m below = ⊎-elim (λ i. (e, List·Memᴰ·head refl, t, i)) (λ i. let r = below i in (r .0, List·Memᴰ·tail (r .1), r .2, r .3))
+          (List·Memᴰ·cases-cons m)
       go false t m below = let r = below m in (r .0, List·Memᴰ·tail (r .1), r .2, r .3)
 
   -- an entry without a frozen bit gives its candidate
@@ -138,7 +139,7 @@ module _ (n mask : ℕ) (cost : ℕ → ℕ → ℕ) (F k w : ℕ) (fits : F < 2
       → codeBit n (unseat n F w + unseat n F (value u * 2 ^ (k * 2 ^ ones F))) (seatIndex n F (k * 2 ^ ones F + t)) ≡ bit u t
   code-at u l t h =
       rw (← seated-down n F fits k w (value u) hk hw clear (short .0) .apart)
-      (unseat-code-bit n F fits _ (k * 2 ^ ones F + t) (seat-lt n F fits k t hk h)
+      (unseat-code-bit n F fits _ (k * 2 ^ ones F + t) (group-seat-lt n F fits k t hk h)
       ∙ block-decided n (ones F) k (ones-le n F fits) (rw (groups-blocks n F fits) at hk) w (value u) clear (short .0) t h
       ∙ rw (short .1, xor-comm forced (bitXor u forced), xor-twice u forced))
     where
@@ -181,9 +182,10 @@ module _ (n mask : ℕ) (cost : ℕ → ℕ → ℕ) (F k w : ℕ) (fits : F < 2
   row-there c m =
       let r = entries-at n F (2 ^ ones F) k forced shut (rowOf costs (2 ^ ones F)) c m in
       let q = row-at costs (2 ^ ones F) (r .0) (r .1) in
+      let small = short-code (ones F) _ few (change-lt (q .0) (q .1)) .0 in
       let filled : fillingOf forced (r .0) ≡ value (q .0) = ap (fillingOf forced) (q .2) ∙ filling-is (q .0) (q .1) in
       rw (r .3 ∙ ap (entryCandidate n F (2 ^ ones F) k forced) (q .2) ∙ entry-is (q .0) (q .1))
-      (candidates-of n mask cost F k (unseat n F w) _ (block-fills n mask F k fits hk (value (q .0)) (short-code (ones F) _ few (change-lt (q .0) (q .1)) .0) (rw (← filled) (eqb-true _ 0 (r .2)))))
+      (candidates-of n mask cost F k (unseat n F w) _ (block-fills n mask F k fits hk (value (q .0)) small (rw (← filled) (eqb-true _ 0 (r .2)))))
 
   row-back : (c : Candidate) → List·Memᴰ c (candidates n mask cost F k (unseat n F w)) → List·Memᴰ c row
   row-back c m =
