@@ -22,9 +22,13 @@ unfolding sumBelow
 sum-blocks zero s g = rw (zero-mul s)
 sum-blocks (suc L) s g = rw (suc-mul L s, sum-split (L * s) s g, sum-blocks L s g)
 
--- the bits of block k
+-- the bits of a word that is block k alone
 pub block-same : (s k v t : ℕ) → bit (v * 2 ^ (k * s)) (k * s + t) ≡ bit v t
 block-same s k v t = rw add-zero at (bit-high v (k * s) (pow-pos (k * s)) t)
+
+-- the bits of a word's block k are the word's
+pub block-bit : (s k w t : ℕ) → t < s → bit (w / 2 ^ (k * s) % 2 ^ s) t ≡ bit w (k * s + t)
+block-bit s k w t l = bit-mod (w / 2 ^ (k * s)) s t l ∙ bit-div w (k * s) t
 
 -- no bit below block k is one
 pub block-below : (s k v i : ℕ) → i < k * s → bit (v * 2 ^ (k * s)) i ≡ 0
@@ -116,4 +120,4 @@ module _ (n f k : ℕ) (fits : f ≤ n) (hk : k < 2 ^ (n - f)) where
         (ap₂ (λ (x y : ℕ). (x + y) % 2) (sym above) (sym (codeword-bit f v t)) ∙ sym (bit-xor (codeword n w / 2 ^ (k * 2 ^ f) % 2 ^ (2 ^ f)) (codeword f v) t))
       where
         above : bit (codeword n w / 2 ^ (k * 2 ^ f) % 2 ^ (2 ^ f)) t ≡ codeBit n w (k * 2 ^ f + t)
-        above = bit-mod (codeword n w / 2 ^ (k * 2 ^ f)) (2 ^ f) t ht ∙ bit-div (codeword n w) (k * 2 ^ f) t ∙ codeword-bit n w (k * 2 ^ f + t)
+        above = block-bit (2 ^ f) k (codeword n w) t ht ∙ codeword-bit n w (k * 2 ^ f + t)

@@ -36,9 +36,9 @@ module _ (n F : ℕ) (fits : F < 2 ^ n) where
   groups-pow : groups n F ≡ 2 ^ countBelow n (hasBit F 0)
   groups-pow = eq-of-mul-eq-mul-right (2 ^ ones F) (pow-pos (ones F)) _ _ (groups-all n F fits ∙ sym (high-size n F fits))
 
-  -- there is a seat for each place of a group
-  pub seat-lt : (k t : ℕ) → k < groups n F → t < 2 ^ ones F → k * 2 ^ ones F + t < 2 ^ n
-  seat-lt k t hk ht = rw (groups-all n F fits) at (digits-lt hk ht)
+  -- each index of a group has a seat below 2 ^ n
+  pub group-seat-lt : (k t : ℕ) → k < groups n F → t < 2 ^ ones F → k * 2 ^ ones F + t < 2 ^ n
+  group-seat-lt k t hk ht = rw (groups-all n F fits) at (digits-lt hk ht)
 
   -- the number of the group of that smallest index
   number : ℕ → ℕ
@@ -46,7 +46,7 @@ module _ (n F : ℕ) (fits : F < 2 ^ n) where
 
   own-smallest : (k : ℕ) → k < groups n F → smallest F (deposit (hasBit F 0) n k) ≡ deposit (hasBit F 0) n k
   own-smallest k l =
-      let p = seat-lt k 0 l (pow-pos (ones F)) in
+      let p = group-seat-lt k 0 l (pow-pos (ones F)) in
       rw (seat-smallest n F fits (k * 2 ^ ones F + 0) p, high k (ones F) (pow-pos (ones F))) at (smallest-twice F (seatIndex n F (k * 2 ^ ones F + 0)))
 
   number-self : (k : ℕ) → k < groups n F → number k ≡ k
@@ -88,7 +88,7 @@ module _ (n F : ℕ) (fits : F < 2 ^ n) where
       back i m =
           let r = mem-map-at at within i m in
           let t : r .0 < 2 ^ ones F = mem-at _ _ (r .0) (r .1) .0 in
-          let p = seat-lt k (r .0) l t in
+          let p = group-seat-lt k (r .0) l t in
           rw (r .2) (group-of n F k (at (r .0)) (seat-below n F fits _ p) (seat-group _ p ∙ high k (ones F) t))
 
   -- the t-th index of group k is at seat k * 2 ^ ones F + t
@@ -103,4 +103,4 @@ module _ (n F : ℕ) (fits : F < 2 ^ n) where
     where
       long : length (take (2 ^ ones F) (drop (k * 2 ^ ones F) (seats n F))) ≡ 2 ^ ones F
       long = rw (length-take, length-drop, seats-length n F fits)
-          (omega (arith, pow-pos (ones F), seat-lt k (2 ^ ones F - 1) l (omega (arith, pow-pos (ones F)))))
+          (omega (arith, pow-pos (ones F), group-seat-lt k (2 ^ ones F - 1) l (omega (arith, pow-pos (ones F)))))

@@ -1,44 +1,35 @@
--- The fillings of a group in seat order: the values of its block with no frozen bit, each with its pattern and its branch.
+-- The fillings of a group in seat order: the values of its block with no frozen bit. Patterns and branches place by place.
 use Prim.Native.Nat.{ℕ, zero, suc, _+_, _*_, _/_, _%_, _^_, _≤_, _<_, min}
 use mathlib.Core.Path.{_≡_, refl, sym, ap, _∙_}
 use mathlib.Core.Logic.{_≢_}
-use mathlib.Core.List.{List, [], _∷_, List·Memᴰ}
-use native.Mathlib.Nat.{mod-lt, add-zero, two-pow-succ, zero-div}
+use mathlib.Core.List.{List, [], _∷_}
+use native.Mathlib.Nat.{mod-lt, two-pow-succ}
 use native.Mathlib.Numerals.{one-add}
 use native.Mathlib.Decide.{decLt, ℕ-discrete}
 use native.Mathlib.Omega.{arith}
 use lib.Pow.{pow-pos, split, high}
-use lib.Arith.{digits-lt}
-use lib.Bits.{bitAnd, bitXor}
-use lib.Count.{ones, ones-le}
+use lib.Bits.{bitAnd}
+use lib.Count.{ones}
 use lib.ListN.{length, getD}
 use borrow.Author.Tests.{eq-eqb, eqb-true}
 use Rattle.rules.specs.Below.{sumBelow}
-use Rattle.rules.specs.Word.{bit, unfrozen, codeBit, codeword}
-use Rattle.rules.specs.Folding.{groupNo, group, groups}
+use Rattle.rules.specs.Word.{bit, codeBit}
+use Rattle.rules.specs.Folding.{group, groups}
 use Rattle.rules.specs.Walk.{pattern, branch}
-use Rattle.laws.specs.Bits.{bit-lt-two, bit-zero, bit-ext, bit-ext-below, bit-beyond, bit-within, bit-mod, bit-div, bit-and}
+use Rattle.laws.specs.Bits.{bit-lt-two, bit-zero, bit-ext, bit-ext-below, bit-beyond, bit-within, bit-div, bit-and}
 use Rattle.laws.specs.BitsMore.{small-of-bits}
-use Rattle.laws.specs.Sums.{sum-split}
-use Rattle.laws.specs.GroupSizes.{groups-all, group-length, group-at, group-of}
+use Rattle.laws.specs.GroupSizes.{group-at, group-of}
 use Rattle.laws.specs.Fillings.{Fills}
 use Rattle.laws.specs.Completions.{fill-zero}
 use Rattle.laws.specs.Seats.{seatIndex, seat-below, seat-onto}
-use Rattle.laws.specs.SeatGroups.{seat-lt as place-lt, seat-group, group-seat}
-use Rattle.laws.specs.SeatWords.{seat, unseat, seat-bit, seat-lt, unseat-bit, unseat-lt, unseat-seat, unseat-code-bit}
-use Rattle.laws.specs.Blocks.{block-same, block-other, block-decided}
-use Rattle.laws.specs.SeatedDown.{groups-blocks, block-small, seated-down}
-
--- block k of a word in seat order, with s bits in a block
-abbrev pub blockOf : ℕ → ℕ → ℕ → ℕ
-blockOf s k w = w / 2 ^ (k * s) % 2 ^ s
-
--- the bits of a block are the word's
-pub block-bit : (s k w t : ℕ) → t < s → bit (blockOf s k w) t ≡ bit w (k * s + t)
-block-bit s k w t l = bit-mod (w / 2 ^ (k * s)) s t l ∙ bit-div w (k * s) t
+use Rattle.laws.specs.SeatGroups.{group-seat-lt, seat-group}
+use Rattle.laws.specs.SeatWords.{seat, unseat, seat-bit, seat-lt, unseat-bit, unseat-lt, unseat-seat}
+use Rattle.laws.specs.Blocks.{block-bit, block-same, block-other}
+use Rattle.laws.specs.SeatedDown.{block-small}
 
 -- the pattern of a list of indices is the number with their codeword bits
-pub pattern-is : (n d u : ℕ) (is : List ℕ) → u < 2 ^ length is → ((t : ℕ) → t < length is → codeBit n d (getD is t 0) ≡ bit u t) → pattern n d is ≡ u
+pub pattern-is : (n d u : ℕ) (is : List ℕ) → u < 2 ^ length is
+    → ((t : ℕ) → t < length is → codeBit n d (getD is t 0) ≡ bit u t) → pattern n d is ≡ u
 unfolding pattern
 pattern-is n d u [] l h = omega arith
 pattern-is n d u (i ∷ is) l h =
@@ -52,20 +43,22 @@ sum-first zero f = omega arith
 sum-first (suc m) f = omega (arith, sum-first m f)
 
 -- the branch of a list of indices is a sum over its places
-pub branch-is : (n : ℕ) (cost : ℕ → ℕ → ℕ) (d : ℕ) (is : List ℕ) → branch n cost d is ≡ sumBelow (length is) (λ t. cost (getD is t 0) (codeBit n d (getD is t 0)))
+pub branch-is : (n : ℕ) (cost : ℕ → ℕ → ℕ) (d : ℕ) (is : List ℕ)
+    → branch n cost d is ≡ sumBelow (length is) (λ t. cost (getD is t 0) (codeBit n d (getD is t 0)))
 unfolding branch sumBelow
 branch-is n cost d [] = refl
 branch-is n cost d (i ∷ is) =
-    ap (λ (x : ℕ). cost i (codeBit n d i) + x) (branch-is n cost d is) ∙ sym (sum-first (length is) (λ t. cost (getD (i ∷ is) t 0) (codeBit n d (getD (i ∷ is) t 0))))
+    ap (λ (x : ℕ). cost i (codeBit n d i) + x) (branch-is n cost d is)
+    ∙ sym (sum-first (length is) (λ t. cost (getD (i ∷ is) t 0) (codeBit n d (getD (i ∷ is) t 0))))
 
 module _ (n mask F k : ℕ) (fits : F < 2 ^ n) (hk : k < groups n F) where
   -- the frozen bits of block k
   shut : ℕ
-  shut = blockOf (2 ^ ones F) k (seat n F mask)
+  shut = seat n F mask / 2 ^ (k * 2 ^ ones F) % 2 ^ (2 ^ ones F)
 
   shut-bit : (t : ℕ) → t < 2 ^ ones F → bit shut t ≡ bit mask (seatIndex n F (k * 2 ^ ones F + t))
   unfolding shut
-  shut-bit t l = block-bit (2 ^ ones F) k (seat n F mask) t l ∙ seat-bit n F mask _ (place-lt n F fits k t hk l)
+  shut-bit t l = block-bit (2 ^ ones F) k (seat n F mask) t l ∙ seat-bit n F mask _ (group-seat-lt n F fits k t hk l)
 
   -- a one of block k stands at a seat of group k
   block-seat : (v j : ℕ) → v < 2 ^ (2 ^ ones F) → bit (unseat n F (v * 2 ^ (k * 2 ^ ones F))) j ≢ 0
@@ -90,12 +83,12 @@ module _ (n mask F k : ℕ) (fits : F < 2 ^ n) (hk : k < groups n F) where
       go q t l e (no y) = absurd (one (rw (← e) (block-other (2 ^ ones F) k v q t hv l y)))
 
   -- a value of block k with no frozen bit is a filling of group k
-  pub block-fills : (v : ℕ) → v < 2 ^ (2 ^ ones F) → bitAnd v (blockOf (2 ^ ones F) k (seat n F mask)) ≡ 0
+  pub block-fills : (v : ℕ) → v < 2 ^ (2 ^ ones F) → bitAnd v (seat n F mask / 2 ^ (k * 2 ^ ones F) % 2 ^ (2 ^ ones F)) ≡ 0
       → Fills mask (group n F k) (unseat n F (v * 2 ^ (k * 2 ^ ones F)))
   unfolding shut
   block-fills v hv none = record {
     inside = λ j b. let r = block-seat v j hv b in
-        let p = place-lt n F fits k (r .0) hk (r .1) in
+        let p = group-seat-lt n F fits k (r .0) hk (r .1) in
         rw (← r .2) (group-of n F k _ (seat-below n F fits _ p) (seat-group n F fits _ p ∙ high k (ones F) (r .1)));
     free = λ j b. let r = block-seat v j hv b in
         rw (← r .2) (eq-eqb _ 0 (sym (shut-bit (r .0) (r .1)) ∙ clear (r .0) (r .3)));
@@ -106,12 +99,18 @@ module _ (n mask F k : ℕ) (fits : F < 2 ^ n) (hk : k < groups n F) where
 
   -- each filling of group k is one
   pub fills-block : (f : ℕ) → Fills mask (group n F k) f
-      → (v : ℕ) × (v < 2 ^ (2 ^ ones F)) × (bitAnd v (blockOf (2 ^ ones F) k (seat n F mask)) ≡ 0) × (unseat n F (v * 2 ^ (k * 2 ^ ones F)) ≡ f)
+      → (v : ℕ) × (v < 2 ^ (2 ^ ones F)) × (bitAnd v (seat n F mask / 2 ^ (k * 2 ^ ones F) % 2 ^ (2 ^ ones F)) ≡ 0)
+      × (unseat n F (v * 2 ^ (k * 2 ^ ones F)) ≡ f)
   unfolding shut
-  fills-block f h = (v, small, bit-ext (λ i. bit-and v shut i ∙ none i (decLt i (2 ^ ones F)) ∙ sym (bit-zero i)), ap (unseat n F) (sym whole) ∙ unseat-seat n F fits f short)
+  fills-block f h = (
+    v,
+    small,
+    bit-ext (λ i. bit-and v shut i ∙ none i (decLt i (2 ^ ones F)) ∙ sym (bit-zero i)),
+    ap (unseat n F) (sym whole) ∙ unseat-seat n F fits f short,
+  )
     where
       v : ℕ
-      v = blockOf (2 ^ ones F) k (seat n F f)
+      v = seat n F f / 2 ^ (k * 2 ^ ones F) % 2 ^ (2 ^ ones F)
 
       small : v < 2 ^ (2 ^ ones F)
       small = mod-lt (seat n F f / 2 ^ (k * 2 ^ ones F)) (pow-pos (2 ^ ones F))
@@ -131,7 +130,7 @@ module _ (n mask F k : ℕ) (fits : F < 2 ^ n) (hk : k < groups n F) where
           index = seatIndex n F (k * 2 ^ ones F + i)
 
           own : bit v i ≡ bit f index
-          own = block-bit (2 ^ ones F) k (seat n F f) i l ∙ seat-bit n F f _ (place-lt n F fits k i hk l)
+          own = block-bit (2 ^ ones F) k (seat n F f) i l ∙ seat-bit n F f _ (group-seat-lt n F fits k i hk l)
 
           go : Dec (bit f index ≡ 0) → min (bit v i) (bit shut i) ≡ 0
           go (yes z) = rw (own, z) (omega arith)
@@ -141,7 +140,8 @@ module _ (n mask F k : ℕ) (fits : F < 2 ^ n) (hk : k < groups n F) where
           → bit (seat n F f) (b * 2 ^ ones F + t) ≡ bit (v * 2 ^ (k * 2 ^ ones F)) (b * 2 ^ ones F + t)
       same b t l p (yes y) = rw y (sym (block-same (2 ^ ones F) k v t ∙ block-bit (2 ^ ones F) k (seat n F f) t l))
       same b t l p (no y) =
-          seat-bit n F f _ p ∙ fill-zero n mask F k f _ h (λ e. y (sym (seat-group n F fits _ p ∙ high b (ones F) l) ∙ e)) ∙ sym (block-other (2 ^ ones F) k v b t small l y)
+          seat-bit n F f _ p ∙ fill-zero n mask F k f _ h (λ e. y (sym (seat-group n F fits _ p ∙ high b (ones F) l) ∙ e))
+          ∙ sym (block-other (2 ^ ones F) k v b t small l y)
 
       whole : seat n F f ≡ v * 2 ^ (k * 2 ^ ones F)
       whole = bit-ext-below (2 ^ n) (seat-lt n F f) (block-small n F fits k v hk small) (λ p l.

@@ -1,5 +1,5 @@
 -- A node's candidates in seat order: the entries of its group's sorted row whose fillings have no frozen bit.
-use Prim.Native.Nat.{ℕ, zero, suc, _+_, _*_, _/_, _%_, _^_, _≤_, _<_}
+use Prim.Native.Nat.{ℕ, suc, _+_, _*_, _/_, _%_, _^_, _≤_, _<_}
 use mathlib.Core.Path.{_≡_, refl, sym, ap, _∙_}
 use mathlib.Core.Bool.{Bool, true, false, cond}
 use mathlib.Core.List.{List, [], _∷_, List·Memᴰ, List·Memᴰ·head, List·Memᴰ·tail, List·Memᴰ·not-nil, List·Memᴰ·cases-cons}
@@ -10,7 +10,7 @@ use lib.Pow.{pow-pos, pow-mono}
 use lib.Bits.{bitAnd, bitXor, xor-comm, xor-lt}
 use lib.Count.{ones, ones-le}
 use lib.Dec.{eqb}
-use lib.ListN.{length, getD}
+use lib.ListN.{length}
 use borrow.Author.Tests.{eqb-true, eq-eqb}
 use Rattle.rules.specs.Below.{sumBelow}
 use Rattle.rules.specs.Word.{bit, codeBit, codeword}
@@ -26,11 +26,15 @@ use Rattle.laws.specs.Candidates.{Before, candidates-at, candidates-of}
 use Rattle.laws.specs.Completions.{Node}
 use Rattle.laws.specs.Patterns.{candidates-unique}
 use Rattle.laws.specs.Seats.{seatIndex}
-use Rattle.laws.specs.SeatGroups.{seat-lt, group-seat}
+use Rattle.laws.specs.SeatGroups.{group-seat-lt, group-seat}
 use Rattle.laws.specs.SeatWords.{seat, unseat, unseat-code-bit}
 use Rattle.laws.specs.Blocks.{block-decided}
 use Rattle.laws.specs.SeatedDown.{groups-blocks, seated-down}
-use Rattle.laws.specs.SeatedFillings.{blockOf, pattern-is, branch-is, block-fills, fills-block}
+use Rattle.laws.specs.SeatedFillings.{pattern-is, branch-is, block-fills, fills-block}
+
+-- block k of a word in seat order, with s bits in a block
+abbrev pub blockOf : ℕ → ℕ → ℕ → ℕ
+blockOf s k w = w / 2 ^ (k * s) % 2 ^ s
 
 -- the filling that a row's entry asks for, where the groups above force the pattern `forced` on an empty filling
 abbrev pub fillingOf : ℕ → ℕ → ℕ
@@ -50,6 +54,10 @@ entryCandidates n F s k forced shut [] = []
 entryCandidates n F s k forced shut (e ∷ es) =
     let others = entryCandidates n F s k forced shut es in cond (isOpen shut forced e) (entryCandidate n F s k forced e ∷ others) others
 
+-- the map of 2 ^ 3 bits serves a block of fewer: its codeword there, and back
+pub short-code : (f v : ℕ) → f ≤ 3 → v < 2 ^ (2 ^ f) → (codeword 3 v < 2 ^ (2 ^ f)) × (codeword f (codeword 3 v) ≡ v)
+short-code f v few l = rw (codeword-longer f 3 v few l) (codeword-lt f v, codeword-twice f v l)
+
 module _ (n F s k forced shut : ℕ) where
   -- such a candidate comes from an entry
   entries-at : (es : List ℕ) (c : Candidate) → List·Memᴰ c (entryCandidates n F s k forced shut es)
@@ -64,7 +72,8 @@ module _ (n F s k forced shut : ℕ) where
       go : (t : Bool) → isOpen shut forced e ≡ t → List·Memᴰ c (cond t (entryCandidate n F s k forced e ∷ others) others)
           → (List·Memᴰ c others → (e : ℕ) × List·Memᴰ e es × (isOpen shut forced e ≡ true) × (c ≡ entryCandidate n F s k forced e))
           → (x : ℕ) × List·Memᴰ x (e ∷ es) × (isOpen shut forced x ≡ true) × (c ≡ entryCandidate n F s k forced x)
-      go true t m below = ⊎-elim (λ i. (e, List·Memᴰ·head refl, t, i)) (λ i. let r = below i in (r .0, List·Memᴰ·tail (r .1), r .2, r .3)) (List·Memᴰ·cases-cons m)
+      go true t m below = ⊎-elim (λ i. (e, List·Memᴰ·head refl, t, i)) (λ i. let r = below i in (r .0, List·Memᴰ·tail (r .1), r .2, r .3))
+          (List·Memᴰ·cases-cons m)
       go false t m below = let r = below m in (r .0, List·Memᴰ·tail (r .1), r .2, r .3)
 
   -- an entry without a frozen bit gives its candidate
@@ -115,7 +124,7 @@ module _ (n mask : ℕ) (cost : ℕ → ℕ → ℕ) (F k w : ℕ) (fits : F < 2
 
   -- the value of block k that gives the pattern u
   abbrev value : ℕ → ℕ
-  value u = codeword (ones F) (bitXor u forced)
+  value u = codeword 3 (bitXor u forced)
 
   change-lt : (u : ℕ) → u < 2 ^ (2 ^ ones F) → bitXor u forced < 2 ^ (2 ^ ones F)
   change-lt u l = xor-lt (2 ^ ones F) u forced l (mod-lt (codeword n w / 2 ^ (k * 2 ^ ones F)) (pow-pos (2 ^ ones F)))
@@ -124,18 +133,18 @@ module _ (n mask : ℕ) (cost : ℕ → ℕ → ℕ) (F k w : ℕ) (fits : F < 2
   eight = pow-mono few
 
   filling-is : (u : ℕ) → u < 2 ^ (2 ^ ones F) → fillingOf forced (entryOf costs (2 ^ ones F) u) ≡ value u
-  filling-is u l = rw (entry-parts costs (2 ^ ones F) u eight l .1) (codeword-longer (ones F) 3 (bitXor u forced) few (change-lt u l))
+  filling-is u l = rw (entry-parts costs (2 ^ ones F) u eight l .1)
 
   code-at : (u : ℕ) → u < 2 ^ (2 ^ ones F) → (t : ℕ) → t < 2 ^ ones F
       → codeBit n (unseat n F w + unseat n F (value u * 2 ^ (k * 2 ^ ones F))) (seatIndex n F (k * 2 ^ ones F + t)) ≡ bit u t
   code-at u l t h =
-      rw (← seated-down n F fits k w (value u) hk hw clear (codeword-lt (ones F) _) .apart)
-      (unseat-code-bit n F fits _ (k * 2 ^ ones F + t) (seat-lt n F fits k t hk h)
-      ∙ block-decided n (ones F) k (ones-le n F fits) (rw (groups-blocks n F fits) at hk) w (value u) clear (codeword-lt (ones F) _) t h
-      ∙ ap (λ (x : ℕ). bit x t) back)
+      rw (← seated-down n F fits k w (value u) hk hw clear (short .0) .apart)
+      (unseat-code-bit n F fits _ (k * 2 ^ ones F + t) (group-seat-lt n F fits k t hk h)
+      ∙ block-decided n (ones F) k (ones-le n F fits) (rw (groups-blocks n F fits) at hk) w (value u) clear (short .0) t h
+      ∙ rw (short .1, xor-comm forced (bitXor u forced), xor-twice u forced))
     where
-      back : bitXor forced (codeword (ones F) (value u)) ≡ u
-      back = rw (codeword-twice (ones F) (bitXor u forced) (change-lt u l), xor-comm forced (bitXor u forced)) (xor-twice u forced)
+      short : (value u < 2 ^ (2 ^ ones F)) × (codeword (ones F) (value u) ≡ bitXor u forced)
+      short = short-code (ones F) (bitXor u forced) few (change-lt u l)
 
   entry-is : (u : ℕ) → u < 2 ^ (2 ^ ones F)
       → entryCandidate n F (2 ^ ones F) k forced (entryOf costs (2 ^ ones F) u)
@@ -173,9 +182,10 @@ module _ (n mask : ℕ) (cost : ℕ → ℕ → ℕ) (F k w : ℕ) (fits : F < 2
   row-there c m =
       let r = entries-at n F (2 ^ ones F) k forced shut (rowOf costs (2 ^ ones F)) c m in
       let q = row-at costs (2 ^ ones F) (r .0) (r .1) in
+      let small = short-code (ones F) _ few (change-lt (q .0) (q .1)) .0 in
       let filled : fillingOf forced (r .0) ≡ value (q .0) = ap (fillingOf forced) (q .2) ∙ filling-is (q .0) (q .1) in
       rw (r .3 ∙ ap (entryCandidate n F (2 ^ ones F) k forced) (q .2) ∙ entry-is (q .0) (q .1))
-      (candidates-of n mask cost F k (unseat n F w) _ (block-fills n mask F k fits hk (value (q .0)) (codeword-lt (ones F) _) (rw (← filled) (eqb-true _ 0 (r .2)))))
+      (candidates-of n mask cost F k (unseat n F w) _ (block-fills n mask F k fits hk (value (q .0)) small (rw (← filled) (eqb-true _ 0 (r .2)))))
 
   row-back : (c : Candidate) → List·Memᴰ c (candidates n mask cost F k (unseat n F w)) → List·Memᴰ c row
   row-back c m =
@@ -183,7 +193,8 @@ module _ (n mask : ℕ) (cost : ℕ → ℕ → ℕ) (F k w : ℕ) (fits : F < 2
       let b = fills-block n mask F k fits hk (r .0) (r .1) in
       let u : ℕ = bitXor (codeword (ones F) (b .0)) forced in
       let l : u < 2 ^ (2 ^ ones F) = change-lt _ (codeword-lt (ones F) (b .0)) in
-      let same : value u ≡ b .0 = rw xor-twice (codeword-twice (ones F) (b .0) (b .1)) in
+      let same : value u ≡ b .0
+      = rw xor-twice (codeword-longer (ones F) 3 _ few (codeword-lt (ones F) (b .0)) ∙ codeword-twice (ones F) (b .0) (b .1)) in
       let free : bitAnd (fillingOf forced (entryOf costs (2 ^ ones F) u)) shut ≡ 0 = rw (filling-is u l, same) (b .2) in
       rw (r .2 ∙ sym (entry-is u l ∙ rw (same, b .3)))
       (entries-of n F (2 ^ ones F) k forced shut (rowOf costs (2 ^ ones F)) _ (row-of costs (2 ^ ones F) u l) (eq-eqb _ 0 free))

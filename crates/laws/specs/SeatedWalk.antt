@@ -1,15 +1,14 @@
 -- The walk over sorted rows in seat order is document 01's walk.
-use Prim.Native.Nat.{ℕ, zero, suc, _+_, _*_, _/_, _^_, _≤_, _<_}
-use mathlib.Core.Path.{_≡_, refl, sym, ap, _∙_}
-use mathlib.Core.Bool.{Bool, true, false, cond}
+use Prim.Native.Nat.{ℕ, zero, suc, _+_, _*_, _^_, _≤_, _<_}
+use mathlib.Core.Path.{_≡_, refl, _∙_}
+use mathlib.Core.Bool.{cond}
 use mathlib.Core.Option.{Option, none, some}
 use mathlib.Core.List.{List, [], _∷_, List·Memᴰ, List·Memᴰ·head, List·Memᴰ·tail}
 use native.Mathlib.Nat.{div-lt-iff-lt-mul, mul-le-mul-right, le-refl}
 use native.Mathlib.Omega.{arith}
 use lib.Pow.{pow-pos}
 use lib.Count.{ones}
-use lib.Dec.{leb, ltb}
-use Rattle.rules.specs.Below.{choose}
+use lib.Dec.{ltb}
 use Rattle.rules.specs.Word.{bit, codeword}
 use Rattle.rules.specs.Level.{nothing, best, wordDistance, leastWord}
 use Rattle.rules.specs.Folding.{group, groups}
@@ -25,8 +24,7 @@ use Rattle.laws.specs.LeastByWalk.{walk-least-in}
 use Rattle.laws.specs.Seats.{seatIndex, seat-below}
 use Rattle.laws.specs.SeatGroups.{seat-group}
 use Rattle.laws.specs.SeatWords.{seat, unseat, seat-lt, seat-bit, unseat-seat}
-use Rattle.laws.specs.SeatedFillings.{blockOf}
-use Rattle.laws.specs.SeatedRow.{entryCandidates, seated-candidates}
+use Rattle.laws.specs.SeatedRow.{blockOf, entryCandidates, seated-candidates}
 
 -- the candidates of group k after the word d, from the group's row
 unfoldable pub seatedCandidates : ℕ → ℕ → ℕ → (ℕ → List ℕ) → ℕ → ℕ → List Candidate
