@@ -7,8 +7,7 @@ use lib.Count.{ones}
 use Rattle.rules.specs.Word.{bit, codeword}
 use Rattle.rules.specs.Walk.{Candidate}
 use Rattle.laws.specs.SeatWords.{seat}
-use Rattle.laws.specs.SeatedFillings.{blockOf}
-use Rattle.laws.specs.SeatedRow.{entryCandidates}
+use Rattle.laws.specs.SeatedRow.{blockOf, entryCandidates}
 use Rattle.word.specs.Words.{wordOf}
 use Rattle.tree.specs.Seating.{Seated, Covered}
 use Rattle.tree.specs.Tables.{entryAt, rowAt}

@@ -1,7 +1,8 @@
 // The walk: depth-first recursion over the levels of the tree, the best word by value.
 // Words are in seat order; a word is put back in index order where it is kept.
 ghost use mathlib.Core.Path.{_≡_};
-ghost use Prim.Native.Nat.{_%_};
+ghost use Prim.Native.Nat.{_*_, _/_, _%_, _^_, _<_};
+ghost use lib.ListN.{getD};
 ghost use lib.Bits.{bitAnd, bitXor};
 ghost use lib.Dec.{eqb};
 ghost use Rattle.rules.specs.Walk.{keepBest};
@@ -9,6 +10,7 @@ ghost use Rattle.laws.specs.Allowance.{walkIn};
 ghost use Rattle.laws.specs.SeatWords.{unseat};
 ghost use Rattle.word.specs.Words.{wordOf};
 ghost use Rattle.tree.specs.States.{stateOf};
+ghost use Rattle.tree.specs.Tables.{Inside, entryAt};
 ghost use Rattle.tree.specs.Nodes.{Given, rowCandidates};
 use crate::seat::unseated;
 use crate::state::Walked;
@@ -25,11 +27,30 @@ pub(crate) struct Tree {
     pub(crate) allowance: u32,
 }
 
-// The bits that an entry's pattern has more than the groups decided before give.
+// Entry j of the sorted row of group k.
+fn entry(rows: &[[u64; 256]; 8], size: usize, k: usize, j: usize) -> u64
+    requires { ⌜ Inside size k j ⌝ }
+    ensures { λ r. ⌜ r ≡ entryAt (now (rows .entry)) size k j ⌝ }
+{
+    let start = k * (1 << size);
+    let row = start / 256;
+    let place = start % 256 + j;
+    rows[row][place]
+}
+
+// The bits of an entry's pattern that the groups decided before do not give.
 fn own_bits(e: u64, forced: u8) -> u8
     ensures { λ r. ⌜ r ≡ bitXor (e % 256) forced ⌝ }
 {
     ((e % 256) as u8) ^ forced
+}
+
+// The branch distance of an entry.
+fn branch(e: u64) -> u32
+    requires { ⌜ e / 256 < 2 ^ 32 ⌝ }
+    ensures { λ r. ⌜ r ≡ e / 256 ⌝ }
+{
+    (e / 256) as u32
 }
 
 // Whether a filling has no frozen bit.
@@ -37,6 +58,14 @@ fn is_open(filling: u8, shut: u8) -> bool
     ensures { λ r. ⌜ r ≡ eqb (bitAnd filling shut) 0 ⌝ }
 {
     filling & shut == 0
+}
+
+// The codeword with a group's own bits at each group that it covers.
+fn coded(x: Word, covered: &[Word; 64], k: usize, own: u8) -> Word
+    requires { ⌜ (k < 64) × (getD (now covered) k 0 * own < 2 ^ 64) ⌝ }
+    ensures { λ r. ⌜ wordOf r ≡ bitXor (wordOf x) (getD (now (covered .entry)) k 0 * own) ⌝ }
+{
+    word::xor(x, word::block::copies(covered[k], own))
 }
 
 // With no level left the word is kept or not; else the candidates of the next group are tried in order.
@@ -59,16 +88,14 @@ fn node(
     }
     let k = left - 1;
     let size = tree.size;
-    let entries: usize = 1 << size;
     let at = k * size;
-    let row = k * entries / 256;
-    let first = k * entries % 256;
+    let entries: usize = 1 << size;
     let forced = word::block::block(x, at, size);
     let shut = word::block::block(tree.frozen, at, size);
     let mut s = state;
     let mut j = 0;
     while j < entries {
-        let e = rows[row][first + j];
+        let e = entry(rows, size, k, j);
         let own = own_bits(e, forced);
         let filling = word::matrix::map_byte(own);
         if is_open(filling, shut) {
@@ -77,13 +104,12 @@ fn node(
                 return s;
             }
             s.visits = s.visits + 1;
-            let total = partial + ((e / 256) as u32);
+            let total = partial + branch(e);
             if farther(s, total) {
                 return s;
             }
             let next = word::xor(d, word::block::above(filling, at));
-            let code = word::xor(x, word::block::copies(covered[k], own));
-            s = node(rows, index, covered, tree, k, total, next, code, s);
+            s = node(rows, index, covered, tree, k, total, next, coded(x, covered, k, own), s);
             if s.stopped {
                 return s;
             }
