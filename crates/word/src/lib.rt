@@ -3,6 +3,7 @@
 pub mod count;
 pub mod matrix;
 pub mod message;
+mod table;
 
 ghost use mathlib.Core.Path.{_≡_};
 ghost use Prim.Native.Nat.{_^_};

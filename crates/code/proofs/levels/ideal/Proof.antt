@@ -1,6 +1,6 @@
 -- `code::levels::ideal` meets its contract.
 use Prim.Native.Nat.{ℕ, zero, suc}
-use mathlib.Core.Path.{_≡_, refl, sym, ap}
+use mathlib.Core.Path.{_≡_, refl}
 use lib.IntN.{pos}
 use Rattle.rules.specs.Level as rules
 use Rattle.code.proofs.levels.ideal.Statement.{statement}

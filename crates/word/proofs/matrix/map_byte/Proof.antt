@@ -13,7 +13,7 @@ use Rattle.laws.specs.Sums.{all-at}
 use Rattle.word.proofs.matrix.map_byte.Statement.{statement}
 use Rattle.word.proofs.matrix.map_byte.Tie as tie
 
--- the table of src/matrix.rt
+-- the table of src/table.rt
 bytes : List ℕ
 bytes =
     0 ∷ 1 ∷ 3 ∷ 2 ∷ 5 ∷ 4 ∷ 6 ∷ 7 ∷ 15 ∷ 14 ∷ 12 ∷ 13 ∷ 10 ∷ 11 ∷ 9 ∷ 8 ∷
