@@ -29,19 +29,15 @@ totalMoved n levels s = sumBelow (2 ^ n) (λ i. gap (levelAt levels i) (bit (cod
 module _ (n mask g s : ℕ) (levels : List ℤ) (given : guardOf n mask ≡ some g) (allowed : permitted n mask s ≡ true) (under : totalMoved n levels s < g) where
   farther : (e : ℕ) → permitted n mask e ≡ true → e ≢ s → wordDistance n (levelCost levels) s < wordDistance n (levelCost levels) e
   farther e p z =
-      omega (
-        arith,
-        margin n mask g given (levelCost levels) (λ i. gap (levelAt levels i) (bit (codeword n s) i)) s e allowed p z
-            (λ i h b. level-apart (levelAt levels i) (bit (codeword n s) i) b (bit-lt-two (codeword n s) i)),
-      )
+      omega (arith, margin n mask g given (levelCost levels) (λ i. gap (levelAt levels i) (bit (codeword n s) i)) s e allowed p z
+        (λ i h b. level-apart (levelAt levels i) (bit (codeword n s) i) b (bit-lt-two (codeword n s) i)))
 
   -- levels moved from a permitted word by a total below the guard: that word is the least word
   pub below-guard : Least n mask (levelCost levels) s
   below-guard = record {
-    allowed = allowed;
-    nearest = λ e p. near e p (ℕ-discrete e s);
-    smallest = λ e p q. small e p q (ℕ-discrete e s);
-  }
+      allowed = allowed;
+      nearest = λ e p. near e p (ℕ-discrete e s);
+      smallest = λ e p q. small e p q (ℕ-discrete e s) }
     where
       near : (e : ℕ) → permitted n mask e ≡ true → Dec (e ≡ s) → wordDistance n (levelCost levels) s ≤ wordDistance n (levelCost levels) e
       near e p (yes q) = rw q (le-refl (wordDistance n (levelCost levels) s))
@@ -84,5 +80,4 @@ at-guard n mask g e =
       long = halfway-length n x;
       ranged = halfway-range n x;
       moved = halfway-moved n x ∙ ap (λ (y : ℕ). 256 * y) (weight-single n j (r .2 .inside) ∙ ap (λ (y : ℕ). 2 ^ y) (r .2 .value)) ∙ sym (r .1);
-      least = halfway-least n x mask;
-    }
+      least = halfway-least n x mask }

@@ -58,10 +58,9 @@ module _ (n x : ℕ) where
   pub halfway-least : (mask : ℕ) → Least n mask (levelCost (halfwayLevels n x)) 0
   unfolding distance slotCost
   halfway-least mask = record {
-    allowed = permitted-zero n mask;
-    nearest = λ e p. sum-le (2 ^ n) (λ i l. slot i l (bit (codeword n e) i) (bit-lt-two (codeword n e) i));
-    smallest = λ e p q. zero-le;
-  }
+      allowed = permitted-zero n mask;
+      nearest = λ e p. sum-le (2 ^ n) (λ i l. slot i l (bit (codeword n e) i) (bit-lt-two (codeword n e) i));
+      smallest = λ e p q. zero-le }
     where
       least : (a b : ℕ) → b < 2 → slotCost (halfway a) 0 ≤ slotCost (halfway a) b
       least zero b h = zero-le
