@@ -1,10 +1,11 @@
 -- The margin: how much farther every other permitted word is than the one sent, by how far the slots were moved.
--- Over any cost and any measure of moving; `level-apart` is the one place that knows the cost of received levels.
+-- Over any cost and any measure of moving; then once for the cost of received levels.
 use Prim.Native.Nat.{ℕ, zero, suc, _+_, _-_, _*_, _%_, _^_, _≤_, _<_}
 use mathlib.Core.Path.{_≡_, refl, sym, ap, _∙_}
 use mathlib.Core.Logic.{_≢_}
 use mathlib.Core.Bool.{Bool, true, false, cond}
 use mathlib.Core.Option.{some}
+use mathlib.Core.List.{List}
 use native.Mathlib.Nat.{add-comm, mul-comm, mul-add}
 use native.Mathlib.Decide.{ℕ-discrete, decLe}
 use native.Mathlib.Omega.{arith}
@@ -14,7 +15,7 @@ use lib.IntN.{ℤ, pos, negsuc, natAbs, subℕ}
 use borrow.Author.Tests.{ltb-true, ltb-false}
 use Rattle.rules.specs.Below.{sumBelow}
 use Rattle.rules.specs.Word.{bit, codeword, permitted}
-use Rattle.rules.specs.Level.{gap, slotCost, distance, wordDistance}
+use Rattle.rules.specs.Level.{levelAt, gap, slotCost, levelCost, distance, wordDistance}
 use Rattle.rules.specs.Guard.{guardOf}
 use Rattle.laws.specs.Sums.{sum-le, sum-add, sum-mul}
 use Rattle.laws.specs.Bits.{bit-lt-two, bit-within, bit-xor, xor-twice}
@@ -97,13 +98,29 @@ gaps (negsuc m) = rw (abs-sub 256 (suc m)) (go (decLe (suc m) 256))
     go (yes l) = between (omega arith)
     go (no g) = before (omega arith)
 
--- the other bit of a slot at a level: (level - ideal b)² is 1024 × (256 ± moved) greater than (level - ideal s)²
-pub level-apart : (level : ℤ) (s b : ℕ) → s < 2 → b < 2 → b ≢ s → slotCost level s + 1024 * 256 ≤ slotCost level b + 1024 * gap level s
+-- (level - ideal b)² is (level - ideal s)² + 1024 × (256 ± moved)
+slot-apart : (level : ℤ) (s b : ℕ) → s < 2 → b < 2 → b ≢ s → slotCost level s + 1024 * 256 ≤ slotCost level b + 1024 * gap level s
 unfolding slotCost
-level-apart level zero zero hs hb z = absurd (z refl)
-level-apart level zero (suc zero) hs hb z = square (gap level 0) (gap level 1) (gaps level)
-level-apart level (suc zero) zero hs hb z = square (gap level 1) (gap level 0) (swapped (gaps level))
-level-apart level (suc zero) (suc zero) hs hb z = absurd (z refl)
-level-apart level zero (suc (suc b)) hs hb z = absurd (omega arith)
-level-apart level (suc zero) (suc (suc b)) hs hb z = absurd (omega arith)
-level-apart level (suc (suc s)) b hs hb z = absurd (omega arith)
+slot-apart level zero zero hs hb z = absurd (z refl)
+slot-apart level zero (suc zero) hs hb z = square (gap level 0) (gap level 1) (gaps level)
+slot-apart level (suc zero) zero hs hb z = square (gap level 1) (gap level 0) (swapped (gaps level))
+slot-apart level (suc zero) (suc zero) hs hb z = absurd (z refl)
+slot-apart level zero (suc (suc b)) hs hb z = absurd (omega arith)
+slot-apart level (suc zero) (suc (suc b)) hs hb z = absurd (omega arith)
+slot-apart level (suc (suc s)) b hs hb z = absurd (omega arith)
+
+-- how far the level of slot i is from the ideal level of the codeword of s
+abbrev pub moved : ℕ → List ℤ → ℕ → ℕ → ℕ
+moved n levels s i = gap (levelAt levels i) (bit (codeword n s) i)
+
+-- how far the levels are from the ideal levels of the codeword of s, all slots together
+abbrev pub totalMoved : ℕ → List ℤ → ℕ → ℕ
+totalMoved n levels s = sumBelow (2 ^ n) (moved n levels s)
+
+-- the margin at received levels
+pub level-margin : (n mask g : ℕ) → guardOf n mask ≡ some g → (levels : List ℤ) (s d : ℕ)
+    → permitted n mask s ≡ true → permitted n mask d ≡ true → d ≢ s
+    → wordDistance n (levelCost levels) s + 1024 * g ≤ wordDistance n (levelCost levels) d + 1024 * totalMoved n levels s
+level-margin n mask g e levels s d ps pd z =
+    margin n mask g e (levelCost levels) (moved n levels s) s d ps pd z
+    (λ i l b. slot-apart (levelAt levels i) (bit (codeword n s) i) b (bit-lt-two (codeword n s) i))

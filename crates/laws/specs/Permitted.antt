@@ -2,6 +2,7 @@
 use Prim.Native.Nat.{ℕ, _^_, _<_}
 use mathlib.Core.Path.{_≡_, refl, sym, _∙_}
 use mathlib.Core.Bool.{Bool, true, false, _||_, true≢false, and-eq-true-iff}
+use native.Mathlib.Decide.{ℕ-discrete}
 use native.Mathlib.Omega.{arith}
 use lib.Bits.{bitXor, xor-lt}
 use lib.Pow.{pow-lt, pow-pos}
@@ -10,7 +11,7 @@ use borrow.Author.Tests.{ltb-true, lt-ltb, eqb-true, eq-eqb}
 use Rattle.rules.specs.Below.{allBelow}
 use Rattle.rules.specs.Word.{bit, unfrozen, permitted}
 use Rattle.laws.specs.Sums.{all-at, all-of}
-use Rattle.laws.specs.Bits.{bit-within, bit-zero, bit-xor, bit-pow-other}
+use Rattle.laws.specs.Bits.{bit-within, bit-lt-two, bit-zero, bit-xor, bit-pow-other}
 
 clear : ℕ → ℕ → ℕ → Bool
 clear mask d i = unfrozen mask i || eqb (bit d i) 0
@@ -46,6 +47,14 @@ module _ (n mask : ℕ) where
       go : (i : ℕ) (u : Bool) → (u ≡ false → bit d i ≡ 0) → (u || eqb (bit d i) 0) ≡ true
       go i true z = refl
       go i false z = eq-eqb (bit d i) 0 (z refl)
+
+  -- or one whose ones stand at unfrozen indices
+  pub permitted-ones : (d : ℕ) → d < 2 ^ (2 ^ n) → ((i : ℕ) → bit d i ≡ 1 → unfrozen mask i ≡ true) → permitted n mask d ≡ true
+  permitted-ones d l h = permitted-of d l (λ i k f. go i f (ℕ-discrete (bit d i) 1))
+    where
+      go : (i : ℕ) → unfrozen mask i ≡ false → Dec (bit d i ≡ 1) → bit d i ≡ 0
+      go i f (yes one) = absurd (true≢false (sym (h i one) ∙ f))
+      go i f (no other) = omega (arith, bit-lt-two d i)
 
   -- word 0 is permitted
   pub permitted-zero : permitted n mask 0 ≡ true

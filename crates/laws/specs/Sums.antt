@@ -1,4 +1,4 @@
--- Laws of `sumBelow`: equal, greater, split, added, scaled and swapped sums, and their parity.
+-- Laws of sums, counts, tests and lists over the numbers below a bound. `-at` reads what a result says of an index, `-of` is the way back.
 use Prim.Native.Nat.{ℕ, zero, suc, _+_, _*_, _%_, _≤_, _<_, zero-le}
 use mathlib.Core.Path.{_≡_, refl, sym, ap₂, _∙_}
 use mathlib.Core.Logic.{_≢_, _⊎_, inl, inr}

@@ -1,15 +1,14 @@
 -- The guard cannot be raised: a single bit sent, its ones moved to level 0, and word 0 is the least word.
-use Prim.Native.Nat.{ℕ, zero, suc, _+_, _*_, _^_, _≤_, _<_, zero-le}
-use mathlib.Core.Path.{_≡_, refl, sym, ap, _∙_}
+use Prim.Native.Nat.{ℕ, zero, suc, _*_, _^_, _≤_, _<_, zero-le}
+use mathlib.Core.Path.{_≡_, refl, _∙_}
 use mathlib.Core.Bool.{true}
 use mathlib.Core.List.{List, map}
 use native.Mathlib.Nat.{le-refl}
 use native.Mathlib.Omega.{arith}
 use lib.IntN.{ℤ, pos, negsuc}
 use lib.ListN.{length}
-use lib.Count.{ones}
 use Rattle.rules.specs.Below.{sumBelow, listBelow}
-use Rattle.rules.specs.Word.{bit, codeword, permitted}
+use Rattle.rules.specs.Word.{bit, codeword}
 use Rattle.rules.specs.Level.{inRange, levelAt, gap, slotCost, levelCost, distance, Least}
 use Rattle.laws.specs.Sums.{sum-cong, sum-le, sum-mul}
 use Rattle.laws.specs.Bits.{bit-lt-two, bit-zero}
@@ -58,9 +57,10 @@ module _ (n x : ℕ) where
   pub halfway-least : (mask : ℕ) → Least n mask (levelCost (halfwayLevels n x)) 0
   unfolding distance slotCost
   halfway-least mask = record {
-      allowed = permitted-zero n mask;
-      nearest = λ e p. sum-le (2 ^ n) (λ i l. slot i l (bit (codeword n e) i) (bit-lt-two (codeword n e) i));
-      smallest = λ e p q. zero-le }
+    allowed = permitted-zero n mask;
+    nearest = λ e p. sum-le (2 ^ n) (λ i l. slot i l (bit (codeword n e) i) (bit-lt-two (codeword n e) i));
+    smallest = λ e p q. zero-le;
+  }
     where
       least : (a b : ℕ) → b < 2 → slotCost (halfway a) 0 ≤ slotCost (halfway a) b
       least zero b h = zero-le

@@ -6,7 +6,7 @@ use native.Mathlib.Nat.{two-pow-succ, mod-lt, le-trans, le-of-eq, le-refl, le-of
 use native.Mathlib.Decide.{decLt, ℕ-discrete}
 use native.Mathlib.Omega.{arith}
 use lib.Arith.{lt-one}
-use lib.Pow.{pow-pos, pow-add, pow-lt, shr-lt, high, low, split}
+use lib.Pow.{pow-pos, pow-add, pow-lt, shr-lt, split}
 use lib.Bits.{bitXor, xor-zero-l, xor-zero-r}
 use lib.Count.{ones, onesIn, ones-cat}
 use Rattle.rules.specs.Below.{sumBelow}
