@@ -32,4 +32,4 @@ pub record Near (k : ℕ) (s r : Float) : Type 0 where
 -- r is what taking a reading makes, once the assembler is right and has room
 abbrev pub Takes : Assembler → Reading → Handed → Type 0
 Takes a reading r =
-    Hands (answer (notFinite reading ∷ []) tt) (left (answer (notFinite reading ∷ []) tt) a (takeReading a reading)) r
+    Hands (answer (notFinite reading ∷ []) (tt {0})) (left (answer (notFinite reading ∷ []) (tt {0})) a (takeReading a reading)) r
