@@ -7,7 +7,7 @@ ghost use lib.IntN.{pos};
 ghost use lib.ListN.{length, take};
 ghost use lib.Ieee.Scale.{finite};
 ghost use Rattle.rules.specs.Level.{limit};
-ghost use Rattle.rules.specs.Sample.{levelOf};
+ghost use Rattle.rules.specs.Sample.{nearestWhole, levelOf};
 ghost use Rattle.rules.specs.Assembling as rules;
 ghost use Rattle.rules.specs.Refusals as refusals;
 ghost use Rattle.rules.specs.Answers.{newAnswer, takeAnswer, takeLeft, giveAnswer, giveLeft};
@@ -95,8 +95,24 @@ fn near(s: f32) -> f32
     s
 }
 
-// The whole number nearest to the magnitude of x, a half to the even neighbour, from the bits of x: below 1/2 it is 0, else
-// the 24 digits are divided by 2 to the number of those that stand below the unit.
+// The whole number nearest to a / b, an exact half going to the even neighbour.
+fn nearest_whole(a: u32, b: u32) -> u32
+    requires { ⌜ (a < 4294967295) × (0 < b) ⌝ }
+    ensures { λ r. ⌜ r ≡ nearestWhole a b ⌝ }
+{
+    let whole = a / b;
+    let rest = a % b;
+    if rest < b - rest {
+        return whole;
+    }
+    if rest > b - rest {
+        return whole + 1;
+    }
+    whole + whole % 2
+}
+
+// The whole number nearest to the magnitude of x, from the bits of x. An exponent below 126 is a magnitude below 1/2; else
+// the 24 digits are divided by two to the number of digits behind the point.
 fn nearest(x: f32) -> u32
     requires { ⌜ T (within 2048 x) ⌝ }
     ensures { λ r. ⌜ r ≡ wholeOf x ⌝ }
@@ -107,16 +123,7 @@ fn nearest(x: f32) -> u32
         return 0;
     }
     let digits = 0x80_0000 + (bits & 0x7f_ffff);
-    let unit = 1u32 << (150 - exponent);
-    let whole = digits / unit;
-    let rest = digits % unit;
-    if rest < unit - rest {
-        return whole;
-    }
-    if rest > unit - rest {
-        return whole + 1;
-    }
-    whole + whole % 2
+    nearest_whole(digits, 1u32 << (150 - exponent))
 }
 
 // A number clipped to LIMIT.
@@ -134,8 +141,9 @@ pub fn level(s: f32) -> Quantised
     ensures { λ r. ⌜ quantisedOf r ≡ levelOf s ⌝ }
 {
     if is_finite(s) {
-        let size = clipped(nearest(near(s) * SCALE));
-        if s < 0.0 {
+        let x = near(s);
+        let size = clipped(nearest(x * SCALE));
+        if x < 0.0 {
             return Quantised::Level(-size);
         }
         return Quantised::Level(size);

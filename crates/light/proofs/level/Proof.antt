@@ -1,44 +1,83 @@
+-- `light::level` meets its contract: the clipped whole number nearest to the exact product, with the sample's sign.
+use Prim.Native.Nat.{ℕ, zero, suc, _≤_, min}
+use mathlib.Core.Path.{_≡_, refl, sym, ap, subst, _∙_}
+use mathlib.Core.Bool.{Bool, true, false, true≢false}
+use mathlib.Core.Option.{Option, none, some}
+use native.Mathlib.Nat.{min-le-right}
+use native.Mathlib.Omega.{arith}
 use borrow.Author.Needs.{needs}
+use lib.Dec.{T}
+use lib.IntN.{ℤ, pos, negsuc, negℤ, _-ℤ_, +ℤ-idl}
+use lib.Ieee.{Float, nan, inf, fin, binary32, lt, mul, ofBits}
+use lib.Ieee.Scale.{finite}
+use mir.Syntax.{w32}
+use mir.Val.{SFits, ofZ, toZ}
+use mir.ValLaws.{toZ-ofZ}
+use Rattle.rules.specs.Level.{limit}
+use Rattle.rules.specs.Sample.{signed, levelOf}
+use Rattle.light.specs.Steps.{wholeOf, Near}
+use Rattle.light.proofs.Scaled.{scale, scaled-within, scaled-level}
 use Rattle.light.proofs.level.Statement.{statement}
 use Rattle.light.proofs.level.Tie as tie
-use Rattle.light.proofs.level.Reads as reads
-use Rattle.light.proofs.level.Lts as lts
-use Rattle.light.proofs.clipped.Reads as clipped-reads
-use Rattle.light.proofs.is_finite.Reads as is-finite-reads
-use Rattle.light.proofs.near.Reads as near-reads
-use Rattle.light.proofs.nearest.Reads as nearest-reads
 
--- src/lib.rt:130:8
+fits : (s : Bool) (q : ℕ) → q ≤ limit → SFits w32 (signed s q)
+fits false q h = record { sfits = omega arith }
+fits true zero h = record { sfits = omega arith }
+fits true (suc q) h = record { sfits = omega arith }
+
+back : (s : Bool) (q : ℕ) → q ≤ limit → toZ w32 (ofZ w32 (signed s q)) ≡ signed s q
+back s q h = toZ-ofZ w32 (signed s q) (fits s q h)
+
+negated : (q : ℕ) → q ≤ limit → pos 0 -ℤ toZ w32 (ofZ w32 (pos q)) ≡ signed true q
+negated q h = ap (λ (z : ℤ). pos 0 -ℤ z) (back false q h) ∙ +ℤ-idl (negℤ (pos q))
+
+-- the level of s, from the clipped sample r that has the same level, the size of the level and the sign
+found : (t : Bool) (s r : Float) (p : ℕ) → Near 8 s r → lt r (fin false 0 (pos 0)) ≡ t → p ≡ wholeOf (mul binary32 r scale) → some (signed t (min p limit)) ≡ levelOf s
+found t s r p n l e = rw (← n .same, scaled-level r (n .held) (n .inside), l, e) refl
+
+not-finite : (s : Float) → false ≡ finite s → none ≡ levelOf s
+unfolding levelOf
+not-finite nan e = refl
+not-finite (inf t) e = refl
+not-finite (fin t m x) e = absurd (true≢false (sym e))
+
 is-finite-requires : tie.Need-is-finite-requires
 is-finite-requires c κs = search needs
 
--- src/lib.rt:131:36
 near-requires : tie.Need-near-requires
-near-requires c κs = ?
+near-requires c κs = subst T (sym (c .if1 .taken) ∙ c .before .is-finite .ensures) tt
 
--- src/lib.rt:131:28
 nearest-requires : tie.Need-nearest-requires
-nearest-requires c κs = ?
+unfolding ofBits
+nearest-requires c κs = scaled-within (c .near .result) (c .near .ensures .held) (c .near .ensures .inside)
 
--- src/lib.rt:131:13
 clipped-requires : tie.Need-clipped-requires
 clipped-requires c κs = search needs
 
--- src/lib.rt:133:37
 sub-t8 : tie.Need-sub-t8
-sub-t8 c = ?
+sub-t8 c =
+    let q = min (c .before .before .nearest .result) limit in
+    let h : q ≤ limit = min-le-right (c .before .before .nearest .result) limit in
+    rw (c .before .clipped .ensures, negated q h) (fits true q h)
 
--- src/lib.rt:133:13
 returns : tie.Need-returns
-returns c = ?
+unfolding ofBits
+returns c =
+    let p = c .before .before .nearest .result in
+    let h : min p limit ≤ limit = min-le-right p limit in
+    rw (c .before .clipped .ensures, negated (min p limit) h, back true (min p limit) h)
+    (found true (c .before .before .before .before .before .before .args .s) (c .before .before .before .near .result) p (c .before .before .before .near .ensures) (c .if2 .taken) (c .before .before .nearest .ensures))
 
--- src/lib.rt:135:9
 returns-2 : tie.Need-returns-2
-returns-2 c = ?
+unfolding ofBits
+returns-2 c =
+    let p = c .before .before .nearest .result in
+    let h : min p limit ≤ limit = min-le-right p limit in
+    rw (c .before .clipped .ensures, back false (min p limit) h)
+    (found false (c .before .before .before .before .before .before .args .s) (c .before .before .before .near .result) p (c .before .before .before .near .ensures) (c .if2 .left) (c .before .before .nearest .ensures))
 
--- src/lib.rt:127:1
 returns-3 : tie.Need-returns-3
-returns-3 c = ?
+returns-3 c = not-finite (c .before .before .args .s) (sym (c .if1 .left) ∙ c .before .is-finite .ensures)
 
 pub level-spec : {M : Type 1} → statement M
 level-spec =

@@ -1,64 +1,56 @@
+-- `light::nearest` meets its contract: the float is what the exponent's field and the digits of its bits say.
+use Prim.Native.Nat.{ℕ, _+_, _-_, _*_, _%_, _^_, _≤_}
+use mathlib.Core.Path.{_≡_, sym, ap, subst, _∙_}
+use mathlib.Core.Bool.{not}
+use native.Mathlib.Nat.{one-mul}
+use native.Mathlib.Omega.{arith}
 use borrow.Author.Needs.{needs}
+use lib.Dec.{T}
+use lib.Pow.{pow-pos, shl-exact}
+use lib.Ieee.{Float, nan, inf, fin, binary32, fits, isNan}
+use Rattle.rules.specs.Sample.{nearestWhole}
+use Rattle.light.specs.Steps.{within}
+use Rattle.light.proofs.Fields.{exponent, digits, digits-lt, exponent-le, below-half, from-half}
 use Rattle.light.proofs.nearest.Statement.{statement}
 use Rattle.light.proofs.nearest.Tie as tie
-use Rattle.light.proofs.nearest.Reads as reads
-use Rattle.light.proofs.nearest.Lts as lts
 
--- src/lib.rt:98:16
+no-nan : (k : ℕ) (x : Float) → T (within k x) → T (not (isNan x))
+unfolding isNan
+no-nan k (fin s m e) w = tt
+
+shift : (x : ℕ) → 126 ≤ x → 1 * 2 ^ (150 - x) % 4294967296 ≡ 2 ^ (150 - x)
+shift x h = shl-exact 1 (150 - x) 32 (omega arith) (omega arith) ∙ one-mul (2 ^ (150 - x))
+
+held : (c : tie.Start) → T (fits binary32 (c .args .x))
+held c = subst T (sym (c .good .0 .1)) tt
+
 float-to-bits-bits : tie.Need-float-to-bits-bits
-float-to-bits-bits c = ?
+float-to-bits-bits c = no-nan 2048 (c .args .x) (c .pre)
 
--- src/lib.rt:101:9
 returns : tie.Need-returns
-returns c = ?
+returns c = sym (below-half (c .before .args .x) (held (c .before)) (c .before .pre) (c .if1 .taken))
 
--- src/lib.rt:103:18
 add-digits : tie.Need-add-digits
-add-digits c = ?
+add-digits c = record { fits = omega (arith, digits-lt (c .before .args .x)) }
 
--- src/lib.rt:104:25
-sub-unit : tie.Need-sub-unit
-sub-unit c = ?
+sub-nearest-whole : tie.Need-sub-nearest-whole
+sub-nearest-whole c = exponent-le (c .before .args .x) (held (c .before)) (c .before .pre)
 
--- src/lib.rt:104:16
-shl-unit : tie.Need-shl-unit
-shl-unit c = search needs
+shl-nearest-whole : tie.Need-shl-nearest-whole
+shl-nearest-whole c = search needs
 
--- src/lib.rt:105:17
-div-whole : tie.Need-div-whole
-div-whole c = ?
+nearest-whole-requires : tie.Need-nearest-whole-requires
+nearest-whole-requires c κs =
+    let x = c .before .args .x in
+    (omega (arith, digits-lt x), rw (shift (exponent x) (c .if1 .left)) (pow-pos (150 - exponent x)))
 
--- src/lib.rt:106:16
-rem-rest : tie.Need-rem-rest
-rem-rest c = ?
-
--- src/lib.rt:107:15
-sub-if2 : tie.Need-sub-if2
-sub-if2 c = ?
-
--- src/lib.rt:108:9
 returns-2 : tie.Need-returns-2
-returns-2 c = ?
-
--- src/lib.rt:110:15
-sub-if3 : tie.Need-sub-if3
-sub-if3 c = ?
-
--- src/lib.rt:111:16
-add-result : tie.Need-add-result
-add-result c = ?
-
--- src/lib.rt:111:9
-returns-3 : tie.Need-returns-3
-returns-3 c = ?
-
--- src/lib.rt:113:5
-add-result-2 : tie.Need-add-result-2
-add-result-2 c = ?
-
--- src/lib.rt:94:1
-returns-4 : tie.Need-returns-4
-returns-4 c = ?
+returns-2 c =
+    let x = c .before .before .args .x in
+    let l = c .before .if1 .left in
+    c .nearest-whole .ensures
+    ∙ ap (nearestWhole (8388608 + digits x)) (shift (exponent x) l)
+    ∙ sym (from-half x (held (c .before .before)) (c .before .before .pre) l)
 
 pub nearest-spec : {M : Type 1} → statement M
 nearest-spec =
@@ -67,14 +59,7 @@ nearest-spec =
     float-to-bits-bits
     returns
     add-digits
-    sub-unit
-    shl-unit
-    div-whole
-    rem-rest
-    sub-if2
-    returns-2
-    sub-if3
-    add-result
-    returns-3
-    add-result-2
-    returns-4)
+    sub-nearest-whole
+    shl-nearest-whole
+    nearest-whole-requires
+    returns-2)

@@ -1,0 +1,3 @@
+mod Clip
+mod Fields
+mod Scaled
