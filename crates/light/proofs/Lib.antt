@@ -1,3 +1,4 @@
 mod Clip
 mod Fields
 mod Scaled
+mod Sizes

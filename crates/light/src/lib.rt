@@ -11,7 +11,6 @@ ghost use Rattle.rules.specs.Sample.{nearestWhole, levelOf};
 ghost use Rattle.rules.specs.Assembling as rules;
 ghost use Rattle.rules.specs.Refusals as refusals;
 ghost use Rattle.rules.specs.Answers.{newAnswer, takeAnswer, takeLeft, giveAnswer, giveLeft};
-ghost use Rattle.refusal.specs.Number.{refusalOf};
 ghost use Rattle.light.specs.Values.{quantisedOf, readingOf, assemblerOf, answerOf, room, Hands};
 ghost use Rattle.light.specs.Steps.{within, wholeOf, Near, Takes};
 
@@ -184,7 +183,7 @@ fn slots_needed(reading: Reading) -> usize
 
 // The levels of a full assembler into a slice of N.
 fn copy(levels: &[i32; 64], out: &mut [i32])
-    requires { ⌜ length (now out) ≤ room ⌝ }
+    requires { ⌜ (length (now levels) ≡ room) × (length (now out) ≤ room) ⌝ }
     ensures { λ _. ⌜ now (out .exit) ≡ take (length (now (out .entry))) (now (levels .entry)) ⌝ }
 {
     let mut i = 0;
@@ -295,7 +294,7 @@ impl Assembler {
 
     // Handed back with a success.
     fn done(self) -> Handed
-        ensures { λ r. ⌜ Hands (refusals.done tt) (assemblerOf self) r ⌝ }
+        ensures { λ r. ⌜ (r .verdict ≡ Verdict.Done) × (r .assembler ≡ self) ⌝ }
     {
         Handed {
             verdict: Verdict::Done,
@@ -305,7 +304,7 @@ impl Assembler {
 
     // Handed back with a refusal.
     fn refused(self, why: Refusal) -> Handed
-        ensures { λ r. ⌜ Hands (refusals.refused (refusalOf why)) (assemblerOf self) r ⌝ }
+        ensures { λ r. ⌜ (r .verdict ≡ Verdict.Refused why) × (r .assembler ≡ self) ⌝ }
     {
         Handed {
             verdict: Verdict::Refused(why),

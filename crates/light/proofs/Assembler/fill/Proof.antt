@@ -1,24 +1,22 @@
+-- `light::Assembler::fill` meets its contract.
+use native.Mathlib.Numerals.{add-one}
 use borrow.Author.Needs.{needs}
+use mir.Syntax.{w32}
+use mir.ValLaws.{toZ-ofZ}
 use Rattle.light.proofs.Assembler.fill.Statement.{statement}
 use Rattle.light.proofs.Assembler.fill.Tie as tie
-use Rattle.light.proofs.Assembler.fill.Reads as reads
-use Rattle.light.proofs.Assembler.fill.Lts as lts
 
--- src/lib.rt:280:9
 mul-levels : tie.Need-mul-levels
 mul-levels c = search needs
 
--- src/lib.rt:280:9
 array-set-from-levels : tie.Need-array-set-from-levels
 array-set-from-levels c = search needs
 
--- src/lib.rt:283:21
 add-t6 : tie.Need-add-t6
 add-t6 c = search needs
 
--- src/lib.rt:273:5
 returns : tie.Need-returns
-returns c = ?
+returns c = rw (toZ-ofZ w32 (c .before .args .level) (c .before .fits .level), add-one (c .before .args .self .filled))
 
 pub fill-spec : {M : Type 1} → statement M
 fill-spec = tie.close (tie.spec mul-levels array-set-from-levels add-t6 returns)

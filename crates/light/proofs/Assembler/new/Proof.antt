@@ -1,31 +1,34 @@
+-- `light::Assembler::new` meets its contract.
+use mathlib.Core.Path.{_≡_, refl, sym, ap, _∙_}
+use mathlib.Core.Bool.{Bool, true, false}
 use borrow.Author.Needs.{needs}
+use lib.IntN.{ℤ}
+use Rattle.rules.specs.Assembling as rules
+use Rattle.rules.specs.Refusals.{isWrongSize}
+use Rattle.rules.specs.Answers.{newAnswer}
 use Rattle.light.proofs.Assembler.new.Statement.{statement}
 use Rattle.light.proofs.Assembler.new.Tie as tie
-use Rattle.light.proofs.Assembler.new.Reads as reads
-use Rattle.light.proofs.Assembler.new.Lts as lts
-use Rattle.light.proofs.Assembler.done.Reads as done-reads
-use Rattle.light.proofs.Assembler.refused.Reads as refused-reads
-use Rattle.light.proofs.is_wrong_size.Reads as is-wrong-size-reads
 
--- src/lib.rt:200:12
 is-wrong-size-requires : tie.Need-is-wrong-size-requires
 is-wrong-size-requires c κs = search needs
 
--- src/lib.rt:201:13
 refused-requires : tie.Need-refused-requires
 refused-requires c κs = search needs
 
--- src/lib.rt:201:13
 returns : tie.Need-returns
-returns c = ?
+unfolding newAnswer
+returns c =
+    let e : isWrongSize (c .before .before .before .args .n) ≡ true = sym (c .before .before .is-wrong-size .ensures) ∙ c .before .if1 .taken in
+    (rw (e, c .refused .ensures .0), rw (c .refused .ensures .1))
 
--- src/lib.rt:203:9
 done-requires : tie.Need-done-requires
 done-requires c κs = search needs
 
--- src/lib.rt:191:5
 returns-2 : tie.Need-returns-2
-returns-2 c = ?
+unfolding newAnswer
+returns-2 c =
+    let e : isWrongSize (c .before .before .before .args .n) ≡ false = sym (c .before .before .is-wrong-size .ensures) ∙ c .before .if1 .left in
+    (rw (e, c .done .ensures .0, c .done .ensures .1), rw (c .done .ensures .1))
 
 pub new-spec : {M : Type 1} → statement M
 new-spec =
