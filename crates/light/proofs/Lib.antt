@@ -2,3 +2,4 @@ mod Clip
 mod Fields
 mod Scaled
 mod Sizes
+mod Taking

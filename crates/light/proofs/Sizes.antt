@@ -11,11 +11,11 @@ use Rattle.rules.specs.Refusals.{isWrongSize, largest}
 use Rattle.light.specs.Values.{room}
 
 -- neither of two tests that are false together is true
-pub or-left : (a b : Bool) → (a || b) ≡ false → a ≡ false
+or-left : (a b : Bool) → (a || b) ≡ false → a ≡ false
 or-left true b e = e
 or-left false b e = refl
 
-pub or-right : (a b : Bool) → (a || b) ≡ false → b ≡ false
+or-right : (a b : Bool) → (a || b) ≡ false → b ≡ false
 or-right true b e = absurd (true≢false e)
 or-right false b e = e
 
@@ -27,3 +27,11 @@ shifted n h = shl-exact 1 n 64 (omega arith) (omega arith) ∙ one-mul (2 ^ n)
 
 pub in-room : (n : ℕ) → n ≤ largest → 2 ^ n ≤ room
 in-room n h = pow-mono h
+
+-- n of an assembler that is not refused
+pub right-n : (n filled : ℕ) → (isWrongSize n || ltb (2 ^ n) filled) ≡ false → n ≤ largest
+right-n n filled e = right-size n (or-left (isWrongSize n) (ltb (2 ^ n) filled) e)
+
+-- the slots filled of an assembler that is not refused
+pub right-filled : (n filled : ℕ) → (isWrongSize n || ltb (2 ^ n) filled) ≡ false → filled ≤ 2 ^ n
+right-filled n filled e = ltb-false (2 ^ n) filled (or-right (isWrongSize n) (ltb (2 ^ n) filled) e)

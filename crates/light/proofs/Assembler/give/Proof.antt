@@ -1,21 +1,14 @@
 -- `light::Assembler::give` meets its contract.
-use Prim.Native.Nat.{ℕ, _*_, _%_, _^_, _≤_, _<_}
-use mathlib.Core.Path.{_≡_, refl, sym, ap, subst, _∙_}
-use mathlib.Core.Bool.{Bool, true, false, _||_}
+use Prim.Native.Nat.{ℕ, _^_}
+use mathlib.Core.Path.{_≡_, sym, ap, _∙_}
 use native.Mathlib.Omega.{arith}
 use borrow.Author.Needs.{needs}
 use borrow.Author.Tests.{lt-ltb, le-ltb, eq-eqb, ne-eqb}
-use lib.Dec.{ltb}
 use lib.ListN.{length, take}
-use Rattle.rules.specs.Refusals.{isWrongSize, largest}
 use Rattle.rules.specs.Answers.{giveAnswer, giveLeft}
-use Rattle.light.proofs.Sizes.{or-left, right-size, shifted, in-room}
+use Rattle.light.proofs.Sizes.{shifted, in-room, right-n}
 use Rattle.light.proofs.Assembler.give.Statement.{statement}
 use Rattle.light.proofs.Assembler.give.Tie as tie
-
--- n of an assembler that is not refused
-small : (n filled : ℕ) → (isWrongSize n || ltb (2 ^ n) filled) ≡ false → n ≤ largest
-small n filled e = right-size n (or-left (isWrongSize n) (ltb (2 ^ n) filled) e)
 
 is-wrong-requires : tie.Need-is-wrong-requires
 is-wrong-requires c κs = search needs
@@ -32,14 +25,14 @@ cast-size c = search needs
 shl-size : tie.Need-shl-size
 shl-size c =
     let a = c .before .before .args .self in
-    omega (arith, small (a .n) (a .filled) (sym (c .before .is-wrong .ensures) ∙ c .if1 .left))
+    omega (arith, right-n (a .n) (a .filled) (sym (c .before .is-wrong .ensures) ∙ c .if1 .left))
 
 returns-2 : tie.Need-returns-2
 unfolding giveAnswer giveLeft
 returns-2 c =
     let a = c .before .before .before .args .self in
     let e = sym (c .before .before .is-wrong .ensures) ∙ c .before .if1 .left in
-    let n = shifted (a .n) (small (a .n) (a .filled) e) in
+    let n = shifted (a .n) (right-n (a .n) (a .filled) e) in
     let f = lt-ltb (a .filled) (2 ^ (a .n)) (rw n at (c .if2 .taken)) in
     (rw (e, f), rw (e, f))
 
@@ -49,7 +42,7 @@ returns-3 c =
     let a = c .before .before .before .before .args .self in
     let out = c .before .before .before .before .args .out .now in
     let e = sym (c .before .before .before .is-wrong .ensures) ∙ c .before .before .if1 .left in
-    let n = shifted (a .n) (small (a .n) (a .filled) e) in
+    let n = shifted (a .n) (right-n (a .n) (a .filled) e) in
     let f = le-ltb (a .filled) (2 ^ (a .n)) (rw n at (c .before .if2 .left)) in
     let l = ne-eqb (length out) (2 ^ (a .n)) (rw n at (c .if3 .taken)) in
     (rw (e, f, l), rw (e, f, l))
@@ -59,7 +52,7 @@ copy-requires c κs =
     let at-start = c .before .before .before .before .before .before .before in
     let a = at-start .args .self in
     let e = sym (c .before .before .before .before .before .before .is-wrong .ensures) ∙ c .before .before .before .before .before .if1 .left in
-    let s = small (a .n) (a .filled) e in
+    let s = right-n (a .n) (a .filled) e in
     (search needs, omega (arith, shifted (a .n) s, in-room (a .n) s, c .before .before .before .if3 .left))
 
 same-length : tie.Need-same-length
@@ -73,7 +66,7 @@ returns-4 c =
     let a = at-start .args .self in
     let out = at-start .args .out .now in
     let e = sym (at-size .before .before .before .is-wrong .ensures) ∙ at-size .before .before .if1 .left in
-    let n = shifted (a .n) (small (a .n) (a .filled) e) in
+    let n = shifted (a .n) (right-n (a .n) (a .filled) e) in
     let f = le-ltb (a .filled) (2 ^ (a .n)) (rw n at (at-size .before .if2 .left)) in
     let m : length out ≡ 2 ^ (a .n) = at-size .if3 .left ∙ n in
     let l = eq-eqb (length out) (2 ^ (a .n)) m in

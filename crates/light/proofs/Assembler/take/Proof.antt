@@ -1,91 +1,125 @@
+-- `light::Assembler::take` meets its contract.
+use Prim.Native.Nat.{ℕ, _+_, _^_, _≤_}
+use mathlib.Core.Path.{_≡_, sym, ap, _∙_}
+use mathlib.Core.Bool.{false, _||_}
+use native.Mathlib.Omega.{arith}
 use borrow.Author.Needs.{needs}
+use lib.Dec.{ltb}
+use Rattle.rules.specs.Assembling.{slotsNeeded}
+use Rattle.rules.specs.Refusals.{isWrongSize}
+use Rattle.rules.specs.Answers.{takeAnswer, takeLeft}
+use Rattle.light.specs.Values.{readingOf, assemblerOf, room, Hands}
+use Rattle.light.specs.Steps.{Takes}
+use Rattle.light.specs.declared.Reading.{Reading}
+use Rattle.light.specs.declared.Reading.the-variants.{Single, Pair, Erased}
+use Rattle.light.specs.declared.Handed.{Handed}
+use Rattle.light.proofs.Sizes.{shifted, in-room, right-n, right-filled}
+use Rattle.light.proofs.Taking.{size-refused, room-refused, taken, at-most-two, erased-done}
 use Rattle.light.proofs.Assembler.take.Statement.{statement}
 use Rattle.light.proofs.Assembler.take.Tie as tie
-use Rattle.light.proofs.Assembler.take.Reads as reads
-use Rattle.light.proofs.Assembler.take.Lts as lts
-use Rattle.light.proofs.Assembler.done.Reads as done-reads
-use Rattle.light.proofs.Assembler.fill.Reads as fill-reads
-use Rattle.light.proofs.Assembler.refused.Reads as refused-reads
-use Rattle.light.proofs.Assembler.take_pair.Reads as take-pair-reads
-use Rattle.light.proofs.Assembler.take_single.Reads as take-single-reads
-use Rattle.light.proofs.is_wrong.Reads as is-wrong-reads
-use Rattle.light.proofs.slots_needed.Reads as slots-needed-reads
 
--- src/lib.rt:219:12
+-- how many slots the code's reading needs
+abbrev needed : Reading → ℕ
+needed reading = slotsNeeded (readingOf reading)
+
+-- after both tests of the assembler
+not-wrong : (p : tie.Else2) → (isWrongSize (p .before .before .before .before .args .self .n) || ltb (2 ^ (p .before .before .before .before .args .self .n)) (p .before .before .before .before .args .self .filled)) ≡ false
+not-wrong p = sym (p .before .before .before .is-wrong .ensures) ∙ p .before .before .if1 .left
+
+room-left : (p : tie.Else2) → p .before .before .before .before .args .self .filled + needed (p .before .before .before .before .args .reading) ≤ 2 ^ (p .before .before .before .before .args .self .n)
+room-left p =
+    let a = p .before .before .before .before .args .self in
+    omega (arith, p .before .slots-needed .ensures, shifted (a .n) (right-n (a .n) (a .filled) (not-wrong p)), p .if2 .left)
+
+-- so many slots, where the reading needs them
+below-room : (p : tie.Else2) (k : ℕ) → needed (p .before .before .before .before .args .reading) ≡ k → p .before .before .before .before .args .self .filled + k ≤ room
+below-room p k e =
+    let a = p .before .before .before .before .args .self in
+    omega (arith, room-left p, in-room (a .n) (right-n (a .n) (a .filled) (not-wrong p)))
+
+hands : (p : tie.Else2) (r : Handed) (reading : Reading) → p .before .before .before .before .args .reading ≡ reading → Takes (assemblerOf (p .before .before .before .before .args .self)) (readingOf reading) r → Hands (takeAnswer (assemblerOf (p .before .before .before .before .args .self)) (readingOf (p .before .before .before .before .args .reading))) (takeLeft (assemblerOf (p .before .before .before .before .args .self)) (readingOf (p .before .before .before .before .args .reading))) r
+hands p r reading e t =
+    let at-start = p .before .before .before .before in
+    taken (assemblerOf (at-start .args .self)) r (readingOf (at-start .args .reading)) (not-wrong p) (room-left p) (rw e t)
+
 is-wrong-requires : tie.Need-is-wrong-requires
 is-wrong-requires c κs = search needs
 
--- src/lib.rt:220:13
 refused-requires : tie.Need-refused-requires
 refused-requires c κs = search needs
 
--- src/lib.rt:220:13
 returns : tie.Need-returns
-returns c = ?
+returns c =
+    let at-start = c .before .before .before in
+    size-refused (assemblerOf (at-start .args .self)) (c .refused .result) (readingOf (at-start .args .reading))
+    (sym (c .before .before .is-wrong .ensures) ∙ c .before .if1 .taken)
+    (c .refused .ensures .0)
+    (ap assemblerOf (c .refused .ensures .1))
 
--- src/lib.rt:222:21
 slots-needed-requires : tie.Need-slots-needed-requires
 slots-needed-requires c κs = search needs
 
--- src/lib.rt:222:12
 add-if2 : tie.Need-add-if2
-add-if2 c = ?
+add-if2 c =
+    let at-start = c .before .before .before in
+    let a = at-start .args .self in
+    let e = sym (c .before .before .is-wrong .ensures) ∙ c .before .if1 .left in
+    record { fits = omega (arith, c .slots-needed .ensures, at-most-two (readingOf (at-start .args .reading)), right-filled (a .n) (a .filled) e, in-room (a .n) (right-n (a .n) (a .filled) e)) }
 
--- src/lib.rt:222:55
 cast-if2 : tie.Need-cast-if2
 cast-if2 c = search needs
 
--- src/lib.rt:222:45
 shl-if2 : tie.Need-shl-if2
-shl-if2 c = ?
+shl-if2 c =
+    let a = c .before .before .before .args .self in
+    omega (arith, right-n (a .n) (a .filled) (sym (c .before .before .is-wrong .ensures) ∙ c .before .if1 .left))
 
--- src/lib.rt:223:13
 refused-requires-2 : tie.Need-refused-requires-2
 refused-requires-2 c κs = search needs
 
--- src/lib.rt:223:13
 returns-2 : tie.Need-returns-2
-returns-2 c = ?
+returns-2 c =
+    let at-needed = c .before .before in
+    let at-start = at-needed .before .before .before in
+    let a = at-start .args .self in
+    let e = sym (at-needed .before .before .is-wrong .ensures) ∙ at-needed .before .if1 .left in
+    room-refused (assemblerOf a) (c .refused2 .result) (readingOf (at-start .args .reading)) e
+    (omega (arith, at-needed .slots-needed .ensures, shifted (a .n) (right-n (a .n) (a .filled) e), c .before .if2 .taken))
+    (c .refused2 .ensures .0)
+    (ap assemblerOf (c .refused2 .ensures .1))
 
--- src/lib.rt:226:29
 enum-known-reading : tie.Need-enum-known-reading
 enum-known-reading c = search needs
 
--- src/lib.rt:226:35
 take-single-requires : tie.Need-take-single-requires
-take-single-requires c κs = ?
+take-single-requires c κs = omega (arith, below-room (c .before .before .before) 1 (ap needed (c .before .reading .given .1)))
 
--- src/lib.rt:227:27
 enum-known-reading-2 : tie.Need-enum-known-reading-2
 enum-known-reading-2 c = search needs
 
--- src/lib.rt:227:33
 take-pair-requires : tie.Need-take-pair-requires
-take-pair-requires c κs = ?
+take-pair-requires c κs = omega (arith, below-room (c .before .before .before) 2 (ap needed (c .before .reading2 .given .1)))
 
--- src/lib.rt:228:32
 enum-told : tie.Need-enum-told
 enum-told c = search needs
 
--- src/lib.rt:228:32
 fill-requires : tie.Need-fill-requires
-fill-requires c κs = ?
+fill-requires c κs = omega (arith, below-room (c .before .before) 1 (ap needed (c .enum-told .given .1)))
 
--- src/lib.rt:228:32
 done-requires : tie.Need-done-requires
 done-requires c κs = search needs
 
--- src/lib.rt:214:5
 returns-3 : tie.Need-returns-3
-returns-3 c = ?
+returns-3 c = hands (c .before .before .before .before) (c .take-single .result) (Single (c .before .before .reading .given .0 .0)) (c .before .before .reading .given .1) (c .take-single .ensures)
 
--- src/lib.rt:214:5
 returns-4 : tie.Need-returns-4
-returns-4 c = ?
+returns-4 c = hands (c .before .before .before .before) (c .take-pair .result) (Pair (c .before .before .reading2 .given .0 .0)) (c .before .before .reading2 .given .1) (c .take-pair .ensures)
 
--- src/lib.rt:214:5
 returns-5 : tie.Need-returns-5
-returns-5 c = ?
+returns-5 c =
+    let a = c .before .before .before .before .before .before .before .before .args .self in
+    hands (c .before .before .before .before) (c .done .result) Erased (c .before .before .enum-told .given .1)
+    (erased-done (assemblerOf a) (c .done .result) (c .done .ensures .0) (ap assemblerOf (c .done .ensures .1) ∙ c .before .fill .ensures))
 
 pub take-spec : {M : Type 1} → statement M
 take-spec =

@@ -1,68 +1,89 @@
+-- `light::Assembler::take_pair` meets its contract.
+use mathlib.Core.Path.{_≡_, sym, ap, _∙_}
+use native.Mathlib.Omega.{arith}
 use borrow.Author.Needs.{needs}
+use mir.Syntax.{w32}
+use mir.ValLaws.{toZ-ofZ}
+use Rattle.rules.specs.Assembling.{Assembler, fillSlot}
+use Rattle.light.specs.Values.{quantisedOf, assemblerOf}
+use Rattle.light.proofs.Taking.{first-refused, second-refused, pair-done}
 use Rattle.light.proofs.Assembler.take_pair.Statement.{statement}
 use Rattle.light.proofs.Assembler.take_pair.Tie as tie
-use Rattle.light.proofs.Assembler.take_pair.Reads as reads
-use Rattle.light.proofs.Assembler.take_pair.Lts as lts
-use Rattle.light.proofs.Assembler.done.Reads as done-reads
-use Rattle.light.proofs.Assembler.fill.Reads as fill-reads
-use Rattle.light.proofs.Assembler.refused.Reads as refused-reads
-use Rattle.light.proofs.level.Reads as level-reads
 
--- src/lib.rt:270:15
 level-requires : tie.Need-level-requires
 level-requires c κs = search needs
 
--- src/lib.rt:271:50
 enum-told : tie.Need-enum-told
 enum-told c = search needs
 
--- src/lib.rt:271:37
 refused-requires : tie.Need-refused-requires
 refused-requires c κs = search needs
 
--- src/lib.rt:272:30
 enum-known-first : tie.Need-enum-known-first
 enum-known-first c = search needs
 
--- src/lib.rt:272:46
 level-requires-2 : tie.Need-level-requires-2
 level-requires-2 c κs = search needs
 
--- src/lib.rt:273:54
 enum-told-2 : tie.Need-enum-told-2
 enum-told-2 c = search needs
 
--- src/lib.rt:273:41
 refused-requires-2 : tie.Need-refused-requires-2
 refused-requires-2 c κs = search needs
 
--- src/lib.rt:274:34
 enum-known-second : tie.Need-enum-known-second
 enum-known-second c = search needs
 
--- src/lib.rt:274:45
 fill-requires : tie.Need-fill-requires
 fill-requires c κs = search needs
 
--- src/lib.rt:274:45
 fill-requires-2 : tie.Need-fill-requires-2
-fill-requires-2 c κs = ?
+fill-requires-2 c κs =
+    let at-start = c .before .before .before .before .before .before .before .before .before in
+    omega (arith, ap (λ (a : Assembler). a .filled) (c .fill .ensures), at-start .pre)
 
--- src/lib.rt:274:45
 done-requires : tie.Need-done-requires
 done-requires c κs = search needs
 
--- src/lib.rt:266:5
 returns : tie.Need-returns
-returns c = ?
+returns c =
+    let at-level = c .before .before .before in
+    let at-start = at-level .before in
+    first-refused (assemblerOf (at-start .args .self)) (c .refused .result) (at-start .args .p .«in_phase») (at-start .args .p .quadrature)
+    (sym (ap quantisedOf (c .before .enum-told .given .1)) ∙ at-level .level .ensures)
+    (c .refused .ensures .0)
+    (ap assemblerOf (c .refused .ensures .1))
 
--- src/lib.rt:266:5
 returns-2 : tie.Need-returns-2
-returns-2 c = ?
+returns-2 c =
+    let at-level2 = c .before .before .before in
+    let at-first = at-level2 .before .before in
+    let at-level = at-first .before .before in
+    let at-start = at-level .before in
+    second-refused (assemblerOf (at-start .args .self)) (c .refused2 .result) (at-start .args .p .«in_phase») (at-start .args .p .quadrature) (at-first .first .given .0 .0)
+    (sym (ap quantisedOf (at-first .first .given .1)) ∙ at-level .level .ensures)
+    (sym (ap quantisedOf (c .before .enum-told2 .given .1)) ∙ at-level2 .level2 .ensures)
+    (c .refused2 .ensures .0)
+    (ap assemblerOf (c .refused2 .ensures .1))
 
--- src/lib.rt:266:5
 returns-3 : tie.Need-returns-3
-returns-3 c = ?
+returns-3 c =
+    let at-second = c .before .before .before .before in
+    let at-level2 = at-second .before .before in
+    let at-first = at-level2 .before .before in
+    let at-level = at-first .before .before in
+    let at-start = at-level .before in
+    let a = assemblerOf (at-start .args .self) in
+    let y = at-first .first .given .0 .0 in
+    let z = at-second .second .given .0 .0 in
+    pair-done a (c .done .result) (at-start .args .p .«in_phase») (at-start .args .p .quadrature) y z
+    (sym (ap quantisedOf (at-first .first .given .1)) ∙ at-level .level .ensures)
+    (sym (ap quantisedOf (at-second .second .given .1)) ∙ at-level2 .level2 .ensures)
+    (c .done .ensures .0)
+    (ap assemblerOf (c .done .ensures .1)
+    ∙ c .before .fill2 .ensures
+    ∙ ap (fillSlot (assemblerOf (c .before .before .fill .result))) (toZ-ofZ w32 z (record { sfits = c .before .before .before .known-told2 .given .0 .1 }))
+    ∙ ap (λ (b : Assembler). fillSlot b z) (c .before .before .fill .ensures ∙ ap (fillSlot a) (toZ-ofZ w32 y (record { sfits = at-level2 .before .known-told .given .0 .1 }))))
 
 pub take-pair-spec : {M : Type 1} → statement M
 take-pair-spec =

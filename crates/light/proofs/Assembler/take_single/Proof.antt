@@ -1,44 +1,52 @@
+-- `light::Assembler::take_single` meets its contract.
+use mathlib.Core.Path.{_≡_, sym, ap, _∙_}
 use borrow.Author.Needs.{needs}
+use mir.Syntax.{w32}
+use mir.ValLaws.{toZ-ofZ}
+use Rattle.rules.specs.Assembling.{fillSlot}
+use Rattle.light.specs.Values.{quantisedOf, assemblerOf}
+use Rattle.light.proofs.Taking.{single-done, single-refused}
 use Rattle.light.proofs.Assembler.take_single.Statement.{statement}
 use Rattle.light.proofs.Assembler.take_single.Tie as tie
-use Rattle.light.proofs.Assembler.take_single.Reads as reads
-use Rattle.light.proofs.Assembler.take_single.Lts as lts
-use Rattle.light.proofs.Assembler.done.Reads as done-reads
-use Rattle.light.proofs.Assembler.fill.Reads as fill-reads
-use Rattle.light.proofs.Assembler.refused.Reads as refused-reads
-use Rattle.light.proofs.level.Reads as level-reads
 
--- src/lib.rt:259:15
 level-requires : tie.Need-level-requires
 level-requires c κs = search needs
 
--- src/lib.rt:260:30
 enum-known-z : tie.Need-enum-known-z
 enum-known-z c = search needs
 
--- src/lib.rt:260:36
 fill-requires : tie.Need-fill-requires
 fill-requires c κs = search needs
 
--- src/lib.rt:260:36
 done-requires : tie.Need-done-requires
 done-requires c κs = search needs
 
--- src/lib.rt:261:50
 enum-told : tie.Need-enum-told
 enum-told c = search needs
 
--- src/lib.rt:261:37
 refused-requires : tie.Need-refused-requires
 refused-requires c κs = search needs
 
--- src/lib.rt:255:5
 returns : tie.Need-returns
-returns c = ?
+returns c =
+    let at-level = c .before .before .before .before .before in
+    let at-start = at-level .before in
+    let z = c .before .before .before .z .given .0 .0 in
+    single-done (assemblerOf (at-start .args .self)) (c .done .result) (at-start .args .s) z
+    (sym (ap quantisedOf (c .before .before .before .z .given .1)) ∙ at-level .level .ensures)
+    (c .done .ensures .0)
+    (ap assemblerOf (c .done .ensures .1)
+    ∙ c .before .fill .ensures
+    ∙ ap (fillSlot (assemblerOf (at-start .args .self))) (toZ-ofZ w32 z (record { sfits = c .before .before .known-told .given .0 .1 })))
 
--- src/lib.rt:255:5
 returns-2 : tie.Need-returns-2
-returns-2 c = ?
+returns-2 c =
+    let at-level = c .before .before .before in
+    let at-start = at-level .before in
+    single-refused (assemblerOf (at-start .args .self)) (c .refused .result) (at-start .args .s)
+    (sym (ap quantisedOf (c .before .enum-told .given .1)) ∙ at-level .level .ensures)
+    (c .refused .ensures .0)
+    (ap assemblerOf (c .refused .ensures .1))
 
 pub take-single-spec : {M : Type 1} → statement M
 take-single-spec =
