@@ -1,29 +1,21 @@
 // From light to levels: the level of a sample, readings, and the assembler of one block.
 ghost use mathlib.Core.Path.{_≡_};
 ghost use mathlib.Core.Bool.{_||_};
-ghost use Prim.Native.Nat.{_+_, _^_, _≤_, _<_, min};
-ghost use lib.Dec.{T, ltb};
-ghost use lib.IntN.{pos};
+ghost use Prim.Native.Nat.{_+_, _^_, _≤_, _<_};
+ghost use lib.Dec.{ltb};
 ghost use lib.ListN.{length, take};
-ghost use lib.Ieee.Scale.{finite};
-ghost use Rattle.rules.specs.Level.{limit};
-ghost use Rattle.rules.specs.Sample.{nearestWhole, levelOf};
+ghost use Rattle.rules.specs.Sample.{levelOf};
 ghost use Rattle.rules.specs.Assembling as rules;
 ghost use Rattle.rules.specs.Refusals as refusals;
 ghost use Rattle.rules.specs.Answers.{newAnswer, takeAnswer, takeLeft, giveAnswer, giveLeft};
 ghost use Rattle.light.specs.Values.{quantisedOf, readingOf, assemblerOf, answerOf, room, Hands};
-ghost use Rattle.light.specs.Steps.{within, wholeOf, Near, Takes};
-
+ghost use Rattle.light.specs.Steps.{Takes};
 use refusal::Refusal;
+
+mod sample; // sample.rt: the steps from a sample to its level
 
 // The greatest magnitude of a level.
 pub const LIMIT: i32 = 1024;
-
-// Every sample past this magnitude has a level past LIMIT: 8 times SCALE is 2048.
-const FAR: f32 = 8.0;
-
-// How many levels one unit of light has.
-const SCALE: f32 = 256.0;
 
 // The largest n.
 const LARGEST: u32 = 6;
@@ -66,82 +58,13 @@ pub struct Handed {
     pub assembler: Assembler,
 }
 
-// Whether a sample is neither NaN nor an infinity.
-fn is_finite(s: f32) -> bool
-    ensures { λ r. ⌜ r ≡ finite s ⌝ }
-{
-    if s != s {
-        return false;
-    }
-    let infinite = f32::from_bits(0x7f80_0000);
-    if s == infinite {
-        return false;
-    }
-    s != -infinite
-}
-
-// A large magnitude clipped first, at FAR.
-fn near(s: f32) -> f32
-    requires { ⌜ T (finite s) ⌝ }
-    ensures { λ r. ⌜ Near 8 s r ⌝ }
-{
-    if s > FAR {
-        return FAR;
-    }
-    if s < -FAR {
-        return -FAR;
-    }
-    s
-}
-
-// The whole number nearest to a / b, an exact half going to the even neighbour.
-fn nearest_whole(a: u32, b: u32) -> u32
-    requires { ⌜ (a < 4294967295) × (0 < b) ⌝ }
-    ensures { λ r. ⌜ r ≡ nearestWhole a b ⌝ }
-{
-    let whole = a / b;
-    let rest = a % b;
-    if rest < b - rest {
-        return whole;
-    }
-    if rest > b - rest {
-        return whole + 1;
-    }
-    whole + whole % 2
-}
-
-// The whole number nearest to the magnitude of x, from the bits of x. An exponent below 126 is a magnitude below 1/2; else
-// the 24 digits are divided by two to the number of digits behind the point.
-fn nearest(x: f32) -> u32
-    requires { ⌜ T (within 2048 x) ⌝ }
-    ensures { λ r. ⌜ r ≡ wholeOf x ⌝ }
-{
-    let bits = f32::to_bits(x);
-    let exponent = bits >> 23 & 0xff;
-    if exponent < 126 {
-        return 0;
-    }
-    let digits = 0x80_0000 + (bits & 0x7f_ffff);
-    nearest_whole(digits, 1u32 << (150 - exponent))
-}
-
-// A number clipped to LIMIT.
-fn clipped(size: u32) -> i32
-    ensures { λ r. ⌜ r ≡ pos (min size limit) ⌝ }
-{
-    if size < LIMIT as u32 {
-        return size as i32;
-    }
-    LIMIT
-}
-
 // The level of a sample.
 pub fn level(s: f32) -> Quantised
     ensures { λ r. ⌜ quantisedOf r ≡ levelOf s ⌝ }
 {
-    if is_finite(s) {
-        let x = near(s);
-        let size = clipped(nearest(x * SCALE));
+    if sample::is_finite(s) {
+        let x = sample::near(s);
+        let size = sample::clipped(sample::nearest(x * sample::SCALE));
         if x < 0.0 {
             return Quantised::Level(-size);
         }
