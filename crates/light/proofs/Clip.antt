@@ -1,5 +1,5 @@
 -- Clipping: by the magnitude alone, and a sample of magnitude 8 or more is clipped.
-use Prim.Native.Nat.{ℕ, zero, suc, _*_, _≤_, _<_, min}
+use Prim.Native.Nat.{ℕ, zero, suc, _-_, _*_, _≤_, _<_, min}
 use mathlib.Core.Path.{_≡_, refl, sym, ap, _∙_}
 use mathlib.Core.Bool.{Bool, true, false}
 use mathlib.Core.Option.{Option, some}
@@ -15,7 +15,7 @@ use Rattle.rules.specs.Sample.{nearestWhole, signed, clip, unclipped, levelOf}
 pub clip-signed : (s : Bool) (q : ℕ) → clip (signed s q) ≡ signed s (min q limit)
 clip-signed false q = refl
 clip-signed true zero = refl
-clip-signed true (suc q) = ap (λ (x : ℕ). negℤ (pos x)) (sym (suc-min-suc q 1023))
+clip-signed true (suc q) = ap (λ (x : ℕ). negℤ (pos x)) (sym (suc-min-suc q (limit - 1)))
 
 far-whole : (a b : ℕ) → 0 < b → 2048 * b ≤ a → limit ≤ nearestWhole a b
 unfolding nearestWhole

@@ -17,8 +17,9 @@ mod sample; // sample.rt: the steps from a sample to its level
 // The greatest magnitude of a level.
 pub const LIMIT: i32 = 1024;
 
-// The largest n.
+// The largest n, and N there: how many levels an assembler has room for.
 const LARGEST: u32 = 6;
+const ROOM: usize = 64;
 
 // An in-phase and a quadrature sample.
 pub struct Pair {
@@ -49,7 +50,7 @@ pub enum Verdict {
 pub struct Assembler {
     pub n: u32,
     pub filled: usize,
-    pub levels: [i32; 64],
+    pub levels: [i32; ROOM],
 }
 
 // A verdict, and the assembler that is handed back with it.
@@ -105,7 +106,7 @@ fn slots_needed(reading: Reading) -> usize
 }
 
 // The levels of a full assembler into a slice of N.
-fn copy(levels: &[i32; 64], out: &mut [i32])
+fn copy(levels: &[i32; ROOM], out: &mut [i32])
     requires { ⌜ (length (now levels) ≡ room) × (length (now out) ≤ room) ⌝ }
     ensures { λ _. ⌜ now (out .exit) ≡ take (length (now (out .entry))) (now (levels .entry)) ⌝ }
 {
@@ -125,7 +126,7 @@ impl Assembler {
         let assembler = Assembler {
             n,
             filled: 0,
-            levels: [0i32; 64],
+            levels: [0i32; ROOM],
         };
         if is_wrong_size(n) {
             return assembler.refused(Refusal::Size);
