@@ -2,3 +2,4 @@ pub mod Values
 pub mod Steps
 pub mod NearestLaw
 pub mod AssemblingLaw
+pub mod Unique

@@ -2,9 +2,11 @@
 use Prim.Native.Nat.{ℕ}
 use mathlib.Core.Path.{_≡_}
 use mathlib.Core.Option.{Option, none, some}
+use mathlib.Core.List.{List}
 use lib.IntN.{ℤ}
 use Rattle.rules.specs.Assembling as rules
 use Rattle.rules.specs.Refusals.{Answer, refused, done}
+use Rattle.rules.specs.Answers.{newAnswer, giveAnswer, giveLeft}
 use Rattle.refusal.specs.Number.{refusalOf}
 use Rattle.light.specs.declared.Quantised.{Quantised}
 use Rattle.light.specs.declared.Quantised.the-variants.{Level, NotFinite}
@@ -39,7 +41,17 @@ abbrev pub answerOf : {A : Type 0} → Verdict → A → Answer A
 answerOf Done success = done success
 answerOf (Refused why) success = refused (refusalOf why)
 
--- a verdict with the assembler that is handed back: which answer, and which state
+-- what is handed back: the answer, and the assembler
 pub record Hands (answer : Answer (Unit {0})) (state : rules.Assembler) (r : Handed) : Type 0 where
   pub verdict : answerOf (r .verdict) tt ≡ answer
   pub left : assemblerOf (r .assembler) ≡ state
+
+-- what a new assembler is handed back as: the answer, and on refusal too the empty assembler of that n
+pub record Starts (n : ℕ) (r : Handed) : Type 0 where
+  pub verdict : answerOf (r .verdict) (assemblerOf (r .assembler)) ≡ newAnswer room n
+  pub left : assemblerOf (r .assembler) ≡ rules.start room n
+
+-- what giving out leaves: the answer, and the slice afterwards
+pub record Gives (a : rules.Assembler) (before after : List ℤ) (r : Verdict) : Type 0 where
+  pub verdict : answerOf r tt ≡ giveAnswer a before
+  pub left : after ≡ giveLeft a before

@@ -7,8 +7,8 @@ ghost use lib.ListN.{length, take};
 ghost use Rattle.rules.specs.Sample.{levelOf};
 ghost use Rattle.rules.specs.Assembling as rules;
 ghost use Rattle.rules.specs.Refusals as refusals;
-ghost use Rattle.rules.specs.Answers.{newAnswer, takeAnswer, takeLeft, giveAnswer, giveLeft};
-ghost use Rattle.light.specs.Values.{quantisedOf, readingOf, assemblerOf, answerOf, room, Hands};
+ghost use Rattle.rules.specs.Answers.{takeAnswer, takeLeft};
+ghost use Rattle.light.specs.Values.{quantisedOf, readingOf, assemblerOf, room, Hands, Starts, Gives};
 ghost use Rattle.light.specs.Steps.{Takes};
 use refusal::Refusal;
 
@@ -19,6 +19,7 @@ pub const LIMIT: i32 = 1024;
 
 // The largest n, and N there: how many levels an assembler has room for.
 const LARGEST: u32 = 6;
+
 const ROOM: usize = 64;
 
 // An in-phase and a quadrature sample.
@@ -120,8 +121,7 @@ fn copy(levels: &[i32; ROOM], out: &mut [i32])
 impl Assembler {
     // An assembler for one n, empty, with every level 0; on refusal it is that too.
     pub fn new(n: u32) -> Handed
-        ensures { λ r. ⌜ (answerOf (r .verdict) (assemblerOf (r .assembler)) ≡ newAnswer room n)
-            × (assemblerOf (r .assembler) ≡ rules.start room n) ⌝ }
+        ensures { λ r. ⌜ Starts n r ⌝ }
     {
         let assembler = Assembler {
             n,
@@ -155,8 +155,7 @@ impl Assembler {
 
     // The N levels of a full assembler into out; a refusal leaves out as it was.
     pub fn give(self, out: &mut [i32]) -> Verdict
-        ensures { λ r. ⌜ (answerOf r tt ≡ giveAnswer (assemblerOf self) (now (out .entry)))
-            × (now (out .exit) ≡ giveLeft (assemblerOf self) (now (out .entry))) ⌝ }
+        ensures { λ r. ⌜ Gives (assemblerOf self) (now (out .entry)) (now (out .exit)) r ⌝ }
     {
         let n = self.n;
         let filled = self.filled;

@@ -17,7 +17,7 @@ returns : tie.Need-returns
 unfolding giveAnswer giveLeft
 returns c =
     let e = sym (c .before .is-wrong .ensures) ∙ c .if1 .taken in
-    (rw e, rw e)
+    record { verdict = rw e; left = rw e }
 
 cast-size : tie.Need-cast-size
 cast-size c = search needs
@@ -34,7 +34,7 @@ returns-2 c =
     let e = sym (c .before .before .is-wrong .ensures) ∙ c .before .if1 .left in
     let n = shifted (a .n) (right-n (a .n) (a .filled) e) in
     let f = lt-ltb (a .filled) (2 ^ (a .n)) (rw n at (c .if2 .taken)) in
-    (rw (e, f), rw (e, f))
+    record { verdict = rw (e, f); left = rw (e, f) }
 
 returns-3 : tie.Need-returns-3
 unfolding giveAnswer giveLeft
@@ -45,7 +45,7 @@ returns-3 c =
     let n = shifted (a .n) (right-n (a .n) (a .filled) e) in
     let f = le-ltb (a .filled) (2 ^ (a .n)) (rw n at (c .before .if2 .left)) in
     let l = ne-eqb (length out) (2 ^ (a .n)) (rw n at (c .if3 .taken)) in
-    (rw (e, f, l), rw (e, f, l))
+    record { verdict = rw (e, f, l); left = rw (e, f, l) }
 
 copy-requires : tie.Need-copy-requires
 copy-requires c κs =
@@ -70,7 +70,7 @@ returns-4 c =
     let f = le-ltb (a .filled) (2 ^ (a .n)) (rw n at (at-size .before .if2 .left)) in
     let m : length out ≡ 2 ^ (a .n) = at-size .if3 .left ∙ n in
     let l = eq-eqb (length out) (2 ^ (a .n)) m in
-    (rw (e, f, l), rw (e, f, l) (c .before .copy .ensures ∙ ap (λ (k : ℕ). take k (a .levels)) m))
+    record { verdict = rw (e, f, l); left = rw (e, f, l) (c .before .copy .ensures ∙ ap (λ (k : ℕ). take k (a .levels)) m) }
 
 pub give-spec : {M : Type 1} → statement M
 give-spec =

@@ -19,7 +19,7 @@ returns : tie.Need-returns
 unfolding newAnswer
 returns c =
     let e : isWrongSize (c .before .before .before .args .n) ≡ true = sym (c .before .before .is-wrong-size .ensures) ∙ c .before .if1 .taken in
-    (rw (e, c .refused .ensures .0), rw (c .refused .ensures .1))
+    record { verdict = rw (e, c .refused .ensures .0); left = rw (c .refused .ensures .1) }
 
 done-requires : tie.Need-done-requires
 done-requires c κs = search needs
@@ -28,7 +28,7 @@ returns-2 : tie.Need-returns-2
 unfolding newAnswer
 returns-2 c =
     let e : isWrongSize (c .before .before .before .args .n) ≡ false = sym (c .before .before .is-wrong-size .ensures) ∙ c .before .if1 .left in
-    (rw (e, c .done .ensures .0, c .done .ensures .1), rw (c .done .ensures .1))
+    record { verdict = rw (e, c .done .ensures .0, c .done .ensures .1); left = rw (c .done .ensures .1) }
 
 pub new-spec : {M : Type 1} → statement M
 new-spec =
