@@ -3,6 +3,7 @@ use Prim.Native.Nat.{_+_, _^_, _≤_, _<_}
 use mathlib.Core.Path.{_≡_, refl, sym, ap, _∙_}
 use mathlib.Core.Bool.{true, false, _||_}
 use mathlib.Core.Option.{Option, none, some}
+use native.Mathlib.Numerals.{add-one}
 use native.Mathlib.Omega.{arith}
 use borrow.Author.Tests.{lt-ltb, le-ltb}
 use lib.Dec.{ltb}
@@ -14,9 +15,14 @@ use Rattle.rules.specs.Refusals.{isWrongSize}
 use Rattle.rules.specs.Answers.{takeAnswer, takeLeft}
 use Rattle.refusal.specs.declared.Refusal.the-variants.{Size, NoRoom, NotFinite}
 use Rattle.light.specs.Values.{assemblerOf, Hands}
-use Rattle.light.specs.Steps.{Takes}
+use Rattle.light.specs.Steps.{Fills, Takes}
+use Rattle.light.specs.declared.Assembler as code
 use Rattle.light.specs.declared.Handed.{Handed}
 use Rattle.light.specs.declared.Verdict.the-variants.{Done, Refused}
+
+-- a slot that the code filled
+pub slot-filled : (a b : code.Assembler) (z : ℤ) → Fills a z b → assemblerOf b ≡ fillSlot (assemblerOf a) z
+slot-filled a b z f = λ i. record { n = f .size i; filled = (f .count ∙ add-one (a .filled)) i; levels = f .stored i }
 
 module _ (a : Assembler) (r : Handed) where
   pub single-done : (s : Float) (z : ℤ) → some z ≡ levelOf s → r .verdict ≡ Done → assemblerOf (r .assembler) ≡ fillSlot a z → Takes a (single s) r

@@ -7,7 +7,7 @@ use lib.IntN.{ℤ}
 use lib.Ieee.{Float}
 use Rattle.rules.specs.Sample.{levelOf}
 use Rattle.rules.specs.Assembling as rules
-use Rattle.rules.specs.Refusals.{Answer, refused, done}
+use Rattle.rules.specs.Answers.{takeAnswer, takeLeft}
 use Rattle.refusal.specs.declared.Refusal.{Refusal}
 use Rattle.refusal.specs.Number.{refusalOf}
 use Rattle.refusal.specs.Unique.{refusal-injective}
@@ -60,8 +60,9 @@ one-start n q r c d =
     (assembler-injective (q .assembler) (r .assembler) (one-answer (c .left) (d .left)))
 
 -- `Assembler::take`
-pub one-taken : (answer : Answer (Unit {0})) (state : rules.Assembler) (q r : Handed) → Hands answer state q → Hands answer state r → q ≡ r
-one-taken answer state q r c d =
+pub one-taken : (a : rules.Assembler) (reading : rules.Reading) (q r : Handed) → Hands (takeAnswer a reading) (takeLeft a reading) q
+    → Hands (takeAnswer a reading) (takeLeft a reading) r → q ≡ r
+one-taken a reading q r c d =
     handed-equal q r (verdict-injective (q .verdict) (r .verdict) (tt {0}) tt (one-answer (c .verdict) (d .verdict)))
     (assembler-injective (q .assembler) (r .assembler) (one-answer (c .left) (d .left)))
 

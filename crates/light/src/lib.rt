@@ -9,7 +9,7 @@ ghost use Rattle.rules.specs.Assembling as rules;
 ghost use Rattle.rules.specs.Refusals as refusals;
 ghost use Rattle.rules.specs.Answers.{takeAnswer, takeLeft};
 ghost use Rattle.light.specs.Values.{quantisedOf, readingOf, assemblerOf, room, Hands, Starts, Gives};
-ghost use Rattle.light.specs.Steps.{Takes};
+ghost use Rattle.light.specs.Steps.{Fills, Takes};
 use refusal::Refusal;
 
 mod sample; // sample.rt: the steps from a sample to its level
@@ -202,7 +202,7 @@ impl Assembler {
     // The next slot filled.
     fn fill(self, level: i32) -> Assembler
         requires { ⌜ self .filled < room ⌝ }
-        ensures { λ r. ⌜ assemblerOf r ≡ rules.fillSlot (assemblerOf self) level ⌝ }
+        ensures { λ r. ⌜ Fills self level r ⌝ }
     {
         let n = self.n;
         let at = self.filled;

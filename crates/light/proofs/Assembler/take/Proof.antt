@@ -5,6 +5,7 @@ use mathlib.Core.Bool.{false, _||_}
 use native.Mathlib.Omega.{arith}
 use borrow.Author.Needs.{needs}
 use lib.Dec.{ltb}
+use lib.IntN.{pos}
 use Rattle.rules.specs.Assembling.{slotsNeeded}
 use Rattle.rules.specs.Refusals.{isWrongSize}
 use Rattle.rules.specs.Answers.{takeAnswer, takeLeft}
@@ -14,7 +15,7 @@ use Rattle.light.specs.declared.Reading.{Reading}
 use Rattle.light.specs.declared.Reading.the-variants.{Single, Pair, Erased}
 use Rattle.light.specs.declared.Handed.{Handed}
 use Rattle.light.proofs.Sizes.{shifted, in-room, right-n, right-filled}
-use Rattle.light.proofs.Taking.{size-refused, room-refused, taken, at-most-two, erased-done}
+use Rattle.light.proofs.Taking.{slot-filled, size-refused, room-refused, taken, at-most-two, erased-done}
 use Rattle.light.proofs.Assembler.take.Statement.{statement}
 use Rattle.light.proofs.Assembler.take.Tie as tie
 
@@ -119,7 +120,7 @@ returns-5 : tie.Need-returns-5
 returns-5 c =
     let a = c .before .before .before .before .before .before .before .before .args .self in
     hands (c .before .before .before .before) (c .done .result) Erased (c .before .before .enum-told .given .1)
-    (erased-done (assemblerOf a) (c .done .result) (c .done .ensures .0) (ap assemblerOf (c .done .ensures .1) ∙ c .before .fill .ensures))
+    (erased-done (assemblerOf a) (c .done .result) (c .done .ensures .0) (ap assemblerOf (c .done .ensures .1) ∙ slot-filled a (c .before .fill .result) (pos 0) (c .before .fill .ensures)))
 
 pub take-spec : {M : Type 1} → statement M
 take-spec =

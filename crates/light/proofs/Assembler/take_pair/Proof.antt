@@ -6,7 +6,7 @@ use mir.Syntax.{w32}
 use mir.ValLaws.{toZ-ofZ}
 use Rattle.rules.specs.Assembling.{Assembler, fillSlot}
 use Rattle.light.specs.Values.{quantisedOf, assemblerOf}
-use Rattle.light.proofs.Taking.{first-refused, second-refused, pair-done}
+use Rattle.light.proofs.Taking.{slot-filled, first-refused, second-refused, pair-done}
 use Rattle.light.proofs.Assembler.take_pair.Statement.{statement}
 use Rattle.light.proofs.Assembler.take_pair.Tie as tie
 
@@ -40,7 +40,7 @@ fill-requires c κs = search needs
 fill-requires-2 : tie.Need-fill-requires-2
 fill-requires-2 c κs =
     let at-start = c .before .before .before .before .before .before .before .before .before in
-    omega (arith, ap (λ (a : Assembler). a .filled) (c .fill .ensures), at-start .pre)
+    omega (arith, c .fill .ensures .count, at-start .pre)
 
 done-requires : tie.Need-done-requires
 done-requires c κs = search needs
@@ -81,9 +81,9 @@ returns-3 c =
     (sym (ap quantisedOf (at-second .second .given .1)) ∙ at-level2 .level2 .ensures)
     (c .done .ensures .0)
     (ap assemblerOf (c .done .ensures .1)
-    ∙ c .before .fill2 .ensures
+    ∙ slot-filled (c .before .before .fill .result) (c .before .fill2 .result) _ (c .before .fill2 .ensures)
     ∙ ap (fillSlot (assemblerOf (c .before .before .fill .result))) (toZ-ofZ w32 z (record { sfits = c .before .before .before .known-told2 .given .0 .1 }))
-    ∙ ap (λ (b : Assembler). fillSlot b z) (c .before .before .fill .ensures ∙ ap (fillSlot a) (toZ-ofZ w32 y (record { sfits = at-level2 .before .known-told .given .0 .1 }))))
+    ∙ ap (λ (b : Assembler). fillSlot b z) (slot-filled (at-start .args .self) (c .before .before .fill .result) _ (c .before .before .fill .ensures) ∙ ap (fillSlot a) (toZ-ofZ w32 y (record { sfits = at-level2 .before .known-told .given .0 .1 }))))
 
 pub take-pair-spec : {M : Type 1} → statement M
 take-pair-spec =
