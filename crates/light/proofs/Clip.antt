@@ -29,4 +29,5 @@ pub far-level : (s : Bool) (m : ℕ) (e : ℤ) → 8 * down e ≤ m * up e → l
 unfolding levelOf unclipped
 far-level s m e h =
     let k : 2048 * down e ≤ 256 * m * up e = omega (arith, mul-assoc 256 m (up e)) in
-    ap some (clip-signed s (nearestWhole (256 * m * up e) (down e)) ∙ ap (signed s) (min-eq-right (far-whole (256 * m * up e) (down e) (down-pos e) k)))
+    ap some
+    (clip-signed s (nearestWhole (256 * m * up e) (down e)) ∙ ap (signed s) (min-eq-right (far-whole (256 * m * up e) (down e) (down-pos e) k)))

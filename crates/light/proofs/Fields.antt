@@ -40,7 +40,8 @@ abbrev pub units : ℕ → ℕ → ℕ
 units zero t = t * 2 ^ 0
 units (suc f) t = (8388608 + t) * 2 ^ f
 
-fields-value : (k : ℕ) (s : Bool) (F t : ℕ) → T (within k (ofFields binary32 s F t)) → HasValue (ofFields binary32 s F t) s (units F t) (2 ^ 149)
+fields-value : (k : ℕ) (s : Bool) (F t : ℕ) → T (within k (ofFields binary32 s F t))
+    → HasValue (ofFields binary32 s F t) s (units F t) (2 ^ 149)
 unfolding ofFields
 fields-value k s zero t w = odd-sign 24 s t 0 149
 fields-value k s (suc f) t w = go (eqb (suc f) 255) w
@@ -49,7 +50,8 @@ fields-value k s (suc f) t w = go (eqb (suc f) 255) w
     none true w = w
     none false w = w
 
-    go : (u : Bool) → T (within k (cond u (cond (eqb t 0) (inf s) nan) (odd 24 s (8388608 + t) f 149))) → HasValue (cond u (cond (eqb t 0) (inf s) nan) (odd 24 s (8388608 + t) f 149)) s ((8388608 + t) * 2 ^ f) (2 ^ 149)
+    go : (u : Bool) → T (within k (cond u (cond (eqb t 0) (inf s) nan) (odd 24 s (8388608 + t) f 149)))
+        → HasValue (cond u (cond (eqb t 0) (inf s) nan) (odd 24 s (8388608 + t) f 149)) s ((8388608 + t) * 2 ^ f) (2 ^ 149)
     go true w = absurd (none (eqb t 0) w)
     go false w = odd-sign 24 s (8388608 + t) f 149
 
@@ -77,7 +79,8 @@ field-le (suc f) t h = go (leb (suc f) 150) refl
 -- ---- a magnitude below one half
 
 pub nearest-zero : (a c : ℕ) → 0 < c → a * 2 < c → nearestWhole a c ≡ 0
-nearest-zero a c C h = nearest-only a c (nearestWhole a c) 0 C (nearest-whole a c C) (record { near = rw zero-mul (omega arith); even = λ _. refl })
+nearest-zero a c C h =
+    nearest-only a c (nearestWhole a c) 0 C (nearest-whole a c C) (record { near = rw zero-mul (omega arith); even = λ _. refl })
 
 doubled : (a j : ℕ) → a < 2 ^ j → j + 1 ≤ 149 → a * 2 < 2 ^ 149
 doubled a j h k = lt-of-lt-of-le (shl-lt j 1 h) (pow-mono k)
@@ -117,7 +120,9 @@ digits-lt x = rw (and-mask (toBits binary32 x) 23) (mod-lt (toBits binary32 x) (
 
 as-fields : (x : Float) → T (fits binary32 x) → ofFields binary32 (sign x) (exponent x) (digits x) ≡ x
 unfolding ofBits
-as-fields x v = rw (and-mask (toBits binary32 x / 8388608) 8, and-mask (toBits binary32 x) 23, ← field (toBits binary32 x) 8 23) (ofBits-toBits binary32 x v)
+as-fields x v =
+    rw (and-mask (toBits binary32 x / 8388608) 8, and-mask (toBits binary32 x) 23, ← field (toBits binary32 x) 8 23)
+    (ofBits-toBits binary32 x v)
 
 module _ (x : Float) (v : T (fits binary32 x)) (w : T (within 2048 x)) where
   pub value : HasValue x (sign x) (units (exponent x) (digits x)) (2 ^ 149)
@@ -132,7 +137,8 @@ module _ (x : Float) (v : T (fits binary32 x)) (w : T (within 2048 x)) where
   whole = whole-of-value x (sign x) (units (exponent x) (digits x)) (2 ^ 149) (pow-pos 149) value
 
   pub below-half : exponent x < 126 → wholeOf x ≡ 0
-  below-half h = whole ∙ nearest-zero (units (exponent x) (digits x)) (2 ^ 149) (pow-pos 149) (small (exponent x) (digits x) h (digits-lt x))
+  below-half h =
+      whole ∙ nearest-zero (units (exponent x) (digits x)) (2 ^ 149) (pow-pos 149) (small (exponent x) (digits x) h (digits-lt x))
 
   pub from-half : 126 ≤ exponent x → wholeOf x ≡ nearestWhole (8388608 + digits x) (2 ^ (150 - exponent x))
   from-half h = whole ∙ divided (exponent x) (digits x) h exponent-le

@@ -97,7 +97,9 @@ by-sign true m e q h = go (ltb 0 (m * up e * 1 + 0 * down e)) refl
 pub scaled-within : (x : Float) → T (fits binary32 x) → T (within 8 x) → T (within 2048 (mul binary32 x scale))
 scaled-within (fin s m e) v w = in-range s m e v w
 
-pub scaled-level : (x : Float) → T (fits binary32 x) → T (within 8 x) → levelOf x ≡ some (signed (lt x (fin false 0 (pos 0))) (min (wholeOf (mul binary32 x scale)) limit))
+pub scaled-level : (x : Float) → T (fits binary32 x) → T (within 8 x)
+    → levelOf x ≡ some (signed (lt x (fin false 0 (pos 0))) (min (wholeOf (mul binary32 x scale)) limit))
 scaled-level (fin s m e) v w =
     levels s m e v w
-    ∙ ap some (by-sign s m e (min (wholeOf (mul binary32 (fin s m e) scale)) limit) (λ h. ap (λ (q : ℕ). min q limit) (zero-level s m e v w h)))
+    ∙ ap some
+    (by-sign s m e (min (wholeOf (mul binary32 (fin s m e) scale)) limit) (λ h. ap (λ (q : ℕ). min q limit) (zero-level s m e v w h)))

@@ -9,6 +9,7 @@ use lib.Dec.{ltb}
 use lib.Pow.{pow-mono, shl-exact}
 use Rattle.rules.specs.Refusals.{isWrongSize, largest}
 use Rattle.light.specs.Values.{room}
+use Rattle.light.specs.Steps.{isWrong}
 
 -- neither of two tests that are false together is true
 or-left : (a b : Bool) → (a || b) ≡ false → a ≡ false
@@ -29,9 +30,9 @@ pub in-room : (n : ℕ) → n ≤ largest → 2 ^ n ≤ room
 in-room n h = pow-mono h
 
 -- n of an assembler that is not refused
-pub right-n : (n filled : ℕ) → (isWrongSize n || ltb (2 ^ n) filled) ≡ false → n ≤ largest
+pub right-n : (n filled : ℕ) → isWrong n filled ≡ false → n ≤ largest
 right-n n filled e = right-size n (or-left (isWrongSize n) (ltb (2 ^ n) filled) e)
 
 -- the slots filled of an assembler that is not refused
-pub right-filled : (n filled : ℕ) → (isWrongSize n || ltb (2 ^ n) filled) ≡ false → filled ≤ 2 ^ n
+pub right-filled : (n filled : ℕ) → isWrong n filled ≡ false → filled ≤ 2 ^ n
 right-filled n filled e = ltb-false (2 ^ n) filled (or-right (isWrongSize n) (ltb (2 ^ n) filled) e)

@@ -1,21 +1,19 @@
 -- What taking a reading makes, by the levels of its samples.
 use Prim.Native.Nat.{_+_, _^_, _≤_, _<_}
 use mathlib.Core.Path.{_≡_, refl, sym, ap, _∙_}
-use mathlib.Core.Bool.{true, false, _||_}
+use mathlib.Core.Bool.{true, false}
 use mathlib.Core.Option.{Option, none, some}
 use native.Mathlib.Numerals.{add-one}
 use native.Mathlib.Omega.{arith}
 use borrow.Author.Tests.{lt-ltb, le-ltb}
-use lib.Dec.{ltb}
 use lib.IntN.{ℤ, pos}
 use lib.Ieee.{Float}
 use Rattle.rules.specs.Sample.{levelOf}
 use Rattle.rules.specs.Assembling.{Assembler, Reading, single, pair, erased, firstWithout, fillSlot, fillSlots, slotsNeeded}
-use Rattle.rules.specs.Refusals.{isWrongSize}
 use Rattle.rules.specs.Answers.{takeAnswer, takeLeft}
 use Rattle.refusal.specs.declared.Refusal.the-variants.{Size, NoRoom, NotFinite}
 use Rattle.light.specs.Values.{assemblerOf, Hands}
-use Rattle.light.specs.Steps.{Fills, Takes}
+use Rattle.light.specs.Steps.{isWrong, Fills, Takes}
 use Rattle.light.specs.declared.Assembler as code
 use Rattle.light.specs.declared.Handed.{Handed}
 use Rattle.light.specs.declared.Verdict.the-variants.{Done, Refused}
@@ -25,23 +23,28 @@ pub slot-filled : (a b : code.Assembler) (z : ℤ) → Fills a z b → assembler
 slot-filled a b z f = λ i. record { n = f .size i; filled = (f .count ∙ add-one (a .filled)) i; levels = f .stored i }
 
 module _ (a : Assembler) (r : Handed) where
-  pub single-done : (s : Float) (z : ℤ) → some z ≡ levelOf s → r .verdict ≡ Done → assemblerOf (r .assembler) ≡ fillSlot a z → Takes a (single s) r
+  pub single-done : (s : Float) (z : ℤ) → some z ≡ levelOf s → r .verdict ≡ Done → assemblerOf (r .assembler) ≡ fillSlot a z
+      → Takes a (single s) r
   unfolding firstWithout fillSlots
   single-done s z l v e = rw (← l) (record { verdict = rw v; left = e })
 
-  pub single-refused : (s : Float) → none ≡ levelOf s → r .verdict ≡ Refused (NotFinite 0) → assemblerOf (r .assembler) ≡ a → Takes a (single s) r
+  pub single-refused : (s : Float) → none ≡ levelOf s → r .verdict ≡ Refused (NotFinite 0) → assemblerOf (r .assembler) ≡ a
+      → Takes a (single s) r
   unfolding firstWithout fillSlots
   single-refused s l v e = rw (← l) (record { verdict = rw v; left = e })
 
-  pub first-refused : (s t : Float) → none ≡ levelOf s → r .verdict ≡ Refused (NotFinite 0) → assemblerOf (r .assembler) ≡ a → Takes a (pair s t) r
+  pub first-refused : (s t : Float) → none ≡ levelOf s → r .verdict ≡ Refused (NotFinite 0) → assemblerOf (r .assembler) ≡ a
+      → Takes a (pair s t) r
   unfolding firstWithout fillSlots
   first-refused s t l v e = rw (← l) (record { verdict = rw v; left = e })
 
-  pub second-refused : (s t : Float) (z : ℤ) → some z ≡ levelOf s → none ≡ levelOf t → r .verdict ≡ Refused (NotFinite 1) → assemblerOf (r .assembler) ≡ a → Takes a (pair s t) r
+  pub second-refused : (s t : Float) (z : ℤ) → some z ≡ levelOf s → none ≡ levelOf t → r .verdict ≡ Refused (NotFinite 1)
+      → assemblerOf (r .assembler) ≡ a → Takes a (pair s t) r
   unfolding firstWithout fillSlots
   second-refused s t z l m v e = rw (← l, ← m) (record { verdict = rw v; left = e })
 
-  pub pair-done : (s t : Float) (y z : ℤ) → some y ≡ levelOf s → some z ≡ levelOf t → r .verdict ≡ Done → assemblerOf (r .assembler) ≡ fillSlot (fillSlot a y) z → Takes a (pair s t) r
+  pub pair-done : (s t : Float) (y z : ℤ) → some y ≡ levelOf s → some z ≡ levelOf t → r .verdict ≡ Done
+      → assemblerOf (r .assembler) ≡ fillSlot (fillSlot a y) z → Takes a (pair s t) r
   unfolding firstWithout fillSlots
   pair-done s t y z l m v e = rw (← l, ← m) (record { verdict = rw v; left = e })
 
@@ -51,15 +54,18 @@ module _ (a : Assembler) (r : Handed) where
 
   -- ---- the order of refusals
 
-  pub size-refused : (reading : Reading) → (isWrongSize (a .n) || ltb (2 ^ (a .n)) (a .filled)) ≡ true → r .verdict ≡ Refused Size → assemblerOf (r .assembler) ≡ a → Hands (takeAnswer a reading) (takeLeft a reading) r
+  pub size-refused : (reading : Reading) → isWrong (a .n) (a .filled) ≡ true → r .verdict ≡ Refused Size
+      → assemblerOf (r .assembler) ≡ a → Hands (takeAnswer a reading) (takeLeft a reading) r
   unfolding takeAnswer takeLeft
   size-refused reading w v e = rw w (record { verdict = rw v; left = e })
 
-  pub room-refused : (reading : Reading) → (isWrongSize (a .n) || ltb (2 ^ (a .n)) (a .filled)) ≡ false → 2 ^ (a .n) < a .filled + slotsNeeded reading → r .verdict ≡ Refused NoRoom → assemblerOf (r .assembler) ≡ a → Hands (takeAnswer a reading) (takeLeft a reading) r
+  pub room-refused : (reading : Reading) → isWrong (a .n) (a .filled) ≡ false → 2 ^ (a .n) < a .filled + slotsNeeded reading
+      → r .verdict ≡ Refused NoRoom → assemblerOf (r .assembler) ≡ a → Hands (takeAnswer a reading) (takeLeft a reading) r
   unfolding takeAnswer takeLeft
   room-refused reading w h v e = rw (w, lt-ltb _ _ h) (record { verdict = rw v; left = e })
 
-  pub taken : (reading : Reading) → (isWrongSize (a .n) || ltb (2 ^ (a .n)) (a .filled)) ≡ false → a .filled + slotsNeeded reading ≤ 2 ^ (a .n) → Takes a reading r → Hands (takeAnswer a reading) (takeLeft a reading) r
+  pub taken : (reading : Reading) → isWrong (a .n) (a .filled) ≡ false → a .filled + slotsNeeded reading ≤ 2 ^ (a .n)
+      → Takes a reading r → Hands (takeAnswer a reading) (takeLeft a reading) r
   unfolding takeAnswer takeLeft
   taken reading w h t = rw (w, le-ltb _ _ h) t
 

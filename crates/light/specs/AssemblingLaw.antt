@@ -53,7 +53,8 @@ then a b c s t p q =
       size = q .size ∙ p .size;
       count = omega (arith, p .count, q .count, length-append s t);
       space = q .space ∙ p .space;
-      levels = q .levels ∙ ap (λ (l : List (Option ℤ)). l ++ t) (p .levels) ∙ append-assoc (map some (take (a .filled) (a .levels))) s t;
+      levels =
+          q .levels ∙ ap (λ (l : List (Option ℤ)). l ++ t) (p .levels) ∙ append-assoc (map some (take (a .filled) (a .levels))) s t;
     }
 
 one-filled : (a : Assembler) (z : ℤ) → a .filled < length (a .levels) → Filled a (fillSlot a z) (some z ∷ [])
@@ -68,7 +69,8 @@ one-filled a z h =
 not-none : {A : Type 0} (x : A) → some x ≡ none → ⊥
 not-none x e = let z : _≡_ {A = ℕ} 0 1 = cc in omega arith
 
-fill-all : (slots : List (Option ℤ)) (k : ℕ) (a : Assembler) → firstWithout slots k ≡ none → a .filled + length slots ≤ length (a .levels) → Filled a (fillSlots a slots) slots
+fill-all : (slots : List (Option ℤ)) (k : ℕ) (a : Assembler) → firstWithout slots k ≡ none
+    → a .filled + length slots ≤ length (a .levels) → Filled a (fillSlots a slots) slots
 unfolding firstWithout fillSlots
 fill-all [] k a f h = none-filled a
 fill-all (none ∷ rest) k a f h = absurd (not-none k f)
@@ -82,7 +84,8 @@ without : (o : Option ℕ) → refuseAt 11 o ≡ none → o ≡ none
 without none e = refl
 without (some v) e = absurd (not-none _ e)
 
-module _ (a : Assembler) (reading : Reading) (w : isWrongSize (a .n) ≡ false) (f : notFinite reading ≡ none) (h : a .filled + slotsNeeded reading ≤ 2 ^ (a .n)) where
+module _ (a : Assembler) (reading : Reading) (w : isWrongSize (a .n) ≡ false) (f : notFinite reading ≡ none)
+    (h : a .filled + slotsNeeded reading ≤ 2 ^ (a .n)) where
   right : (isWrongSize (a .n) || ltb (2 ^ (a .n)) (a .filled)) ≡ false
   right = rw (w, le-ltb (2 ^ (a .n)) (a .filled) (omega arith))
 
@@ -118,16 +121,20 @@ pub record Assembled (room n : ℕ) (readings : List Reading) (slice : List ℤ)
   pub given : giveAnswer (takeAll (start room n) readings) slice ≡ done tt
   pub levels : map some (giveLeft (takeAll (start room n) readings) slice) ≡ slotsOf readings
 
-module _ (b : Assembler) (slice : List ℤ) (w : isWrongSize (b .n) ≡ false) (c : b .filled ≡ 2 ^ (b .n)) (l : length slice ≡ 2 ^ (b .n)) where
+module _ (b : Assembler) (slice : List ℤ) (w : isWrongSize (b .n) ≡ false) (c : b .filled ≡ 2 ^ (b .n))
+    (l : length slice ≡ 2 ^ (b .n)) where
   is-given : giveAnswer b slice ≡ done tt
   unfolding giveAnswer
-  is-given = rw (w, le-ltb (2 ^ (b .n)) (b .filled) (omega arith), le-ltb (b .filled) (2 ^ (b .n)) (omega arith), eq-eqb (length slice) (2 ^ (b .n)) l)
+  is-given =
+      rw
+      (w, le-ltb (2 ^ (b .n)) (b .filled) (omega arith), le-ltb (b .filled) (2 ^ (b .n)) (omega arith), eq-eqb (length slice) (2 ^ (b .n)) l)
 
   is-out : giveLeft b slice ≡ take (b .filled) (b .levels)
   unfolding giveLeft
   is-out = rw (is-given, c)
 
-pub assembled : (room n : ℕ) (readings : List Reading) (slice : List ℤ) → isWrongSize n ≡ false → 2 ^ n ≤ room → length slice ≡ 2 ^ n
+pub assembled : (room n : ℕ) (readings : List Reading) (slice : List ℤ) → isWrongSize n ≡ false → 2 ^ n ≤ room
+    → length slice ≡ 2 ^ n
     → AllFinite readings → length (slotsOf readings) ≡ 2 ^ n → Assembled room n readings slice
 assembled room n readings slice w r l f h =
     let b = takeAll (start room n) readings in

@@ -30,12 +30,14 @@ Compared Ordering·eq a b = a ≡ b
 Compared Ordering·gt a b = b < a
 
 pub compared : (a b : ℕ) → Compared (compare a b) a b
-compared a b = go (compare a b) (leb→le a b) (nleb→lt a b) (eqb→eq a b) (λ (e : a ≡ b). subst (λ (x : ℕ). T (eqb a x)) e (eqb-refl a))
+compared a b =
+    go (compare a b) (leb→le a b) (nleb→lt a b) (eqb→eq a b) (λ (e : a ≡ b). subst (λ (x : ℕ). T (eqb a x)) e (eqb-refl a))
   where
     less : a ≤ b → (a ≡ b → ⊥) → a < b
     less h n = omega arith
 
-    go : (o : Ordering) → (T (isLe o) → a ≤ b) → (T (not (isLe o)) → b < a) → (T (isEq o) → a ≡ b) → (a ≡ b → T (isEq o)) → Compared o a b
+    go : (o : Ordering) → (T (isLe o) → a ≤ b) → (T (not (isLe o)) → b < a) → (T (isEq o) → a ≡ b) → (a ≡ b → T (isEq o))
+        → Compared o a b
     go Ordering·lt h k e n = less (h tt) n
     go Ordering·eq h k e n = e tt
     go Ordering·gt h k e n = k tt
@@ -55,15 +57,20 @@ whole Q P b r Ordering·eq e l c = half (Q % 2) refl
         at (P + r) b (Q + Q % 2) P (ap (λ (x : ℕ). x * b) h ∙ e) (omega arith) (λ _. omega arith)
     half (suc k) z =
         let h : Q + Q % 2 ≡ suc Q = omega arith in
-        at (P + r) b (Q + Q % 2) (P + b) (ap (λ (x : ℕ). x * b) h ∙ suc-mul Q b ∙ ap (λ (x : ℕ). x + b) e) (omega arith) (λ _. omega arith)
-whole Q P b r Ordering·gt e l c = at (P + r) b (suc Q) (P + b) (suc-mul Q b ∙ ap (λ (x : ℕ). x + b) e) (omega arith) (λ h. omega arith)
+        at (P + r) b (Q + Q % 2) (P + b) (ap (λ (x : ℕ). x * b) h ∙ suc-mul Q b ∙ ap (λ (x : ℕ). x + b) e) (omega arith)
+        (λ _. omega arith)
+whole Q P b r Ordering·gt e l c =
+    at (P + r) b (suc Q) (P + b) (suc-mul Q b ∙ ap (λ (x : ℕ). x + b) e) (omega arith) (λ h. omega arith)
 
 pub nearest-whole : (a b : ℕ) → 0 < b → Nearest a b (nearestWhole a b)
 unfolding nearestWhole
-nearest-whole a b B = subst (λ (x : ℕ). Nearest x b (nearest (a / b) (compare (a % b * 2) b))) (div-add-mod' a b) (whole (a / b) (a / b * b) b (a % b) (compare (a % b * 2) b) refl (mod-lt a B) (compared (a % b * 2) b))
+nearest-whole a b B =
+    subst (λ (x : ℕ). Nearest x b (nearest (a / b) (compare (a % b * 2) b))) (div-add-mod' a b)
+    (whole (a / b) (a / b * b) b (a % b) (compare (a % b * 2) b) refl (mod-lt a B) (compared (a % b * 2) b))
 
 -- two multiples, one at least b above the other and both within b / 2 of a, are b apart and both one half away
-both-halves : (P R a b : ℕ) → P + b ≤ R → 2 * apart P a ≤ b → 2 * apart R a ≤ b → (R ≡ P + b) × (2 * apart P a ≡ b) × (2 * apart R a ≡ b)
+both-halves : (P R a b : ℕ) → P + b ≤ R → 2 * apart P a ≤ b → 2 * apart R a ≤ b
+    → (R ≡ P + b) × (2 * apart P a ≡ b) × (2 * apart R a ≡ b)
 both-halves P R a b h x y = (omega arith, omega arith, omega arith)
 
 neighbours : (p q : ℕ) → q ≡ suc p → p % 2 ≡ 0 → q % 2 ≡ 0 → ⊥
@@ -140,15 +147,19 @@ other-sign s a b k B n =
 only : (s : Bool) (a b : ℕ) (z : ℤ) → 0 < b → NearestSigned s a b z → z ≡ signed s (nearestWhole a b)
 only false a b (pos q) B n = ap pos (nearest-only a b q (nearestWhole a b) B (nearest-unsigned false a b q n) (nearest-whole a b B))
 only false a b (negsuc k) B n = absurd (other-sign false a b k B n)
-only true a b (pos zero) B n = ap (signed true) (nearest-only a b 0 (nearestWhole a b) B (nearest-unsigned true a b 0 n) (nearest-whole a b B))
+only true a b (pos zero) B n =
+    ap (signed true) (nearest-only a b 0 (nearestWhole a b) B (nearest-unsigned true a b 0 n) (nearest-whole a b B))
 only true a b (pos (suc k)) B n = absurd (other-sign true a b k B n)
-only true a b (negsuc k) B n = ap (signed true) (nearest-only a b (suc k) (nearestWhole a b) B (nearest-unsigned true a b (suc k) n) (nearest-whole a b B))
+only true a b (negsuc k) B n =
+    ap (signed true) (nearest-only a b (suc k) (nearestWhole a b) B (nearest-unsigned true a b (suc k) n) (nearest-whole a b B))
 
 -- ---- the level before clipping of the sample ±m * 2 ^ e, which is ±256 * m * up e / down e levels
 
 pub unclipped-nearest : (s : Bool) (m : ℕ) (e : ℤ) → NearestSigned s (256 * m * up e) (down e) (unclipped s m e)
 unfolding unclipped
-unclipped-nearest s m e = signed-nearest s (256 * m * up e) (down e) (nearestWhole (256 * m * up e) (down e)) (nearest-whole (256 * m * up e) (down e) (down-pos e))
+unclipped-nearest s m e =
+    signed-nearest s (256 * m * up e) (down e) (nearestWhole (256 * m * up e) (down e))
+    (nearest-whole (256 * m * up e) (down e) (down-pos e))
 
 pub unclipped-only : (s : Bool) (m : ℕ) (e z : ℤ) → NearestSigned s (256 * m * up e) (down e) z → z ≡ unclipped s m e
 unfolding unclipped

@@ -1,15 +1,15 @@
 -- What the private steps promise: from a sample to its level, and taking a reading.
-use Prim.Native.Nat.{ℕ, _+_, _*_}
+use Prim.Native.Nat.{ℕ, _+_, _*_, _^_}
 use mathlib.Core.Path.{_≡_}
-use mathlib.Core.Bool.{Bool, true, false}
+use mathlib.Core.Bool.{Bool, true, false, _||_}
 use mathlib.Core.List.{[], _∷_}
-use lib.Dec.{T, leb}
+use lib.Dec.{T, leb, ltb}
 use lib.IntN.{ℤ}
 use lib.ListN.{set}
 use lib.Ieee.{Float, nan, inf, fin, binary32, up, down, fits}
 use Rattle.rules.specs.Sample.{nearestWhole, levelOf}
 use Rattle.rules.specs.Assembling as rules
-use Rattle.rules.specs.Refusals.{answer, left, notFinite}
+use Rattle.rules.specs.Refusals.{answer, left, isWrongSize, notFinite}
 use Rattle.light.specs.Values.{Hands}
 use Rattle.light.specs.declared.Assembler.{Assembler}
 use Rattle.light.specs.declared.Handed.{Handed}
@@ -32,6 +32,10 @@ pub record Near (k : ℕ) (s r : Float) : Type 0 where
   pub held : T (fits binary32 r)
   pub inside : T (within k r)
 
+-- an assembler of this n with so many slots filled is refused
+abbrev pub isWrong : ℕ → ℕ → Bool
+isWrong n filled = isWrongSize n || ltb (2 ^ n) filled
+
 -- r is the assembler a with its next slot filled
 pub record Fills (a : Assembler) (level : ℤ) (r : Assembler) : Type 0 where
   pub size : r .n ≡ a .n
@@ -41,4 +45,5 @@ pub record Fills (a : Assembler) (level : ℤ) (r : Assembler) : Type 0 where
 -- r is what taking a reading makes, once the assembler is right and has room
 abbrev pub Takes : rules.Assembler → rules.Reading → Handed → Type 0
 Takes a reading r =
-    Hands (answer (notFinite reading ∷ []) (tt {0})) (left (answer (notFinite reading ∷ []) (tt {0})) a (rules.takeReading a reading)) r
+    Hands (answer (notFinite reading ∷ []) (tt {0}))
+    (left (answer (notFinite reading ∷ []) (tt {0})) a (rules.takeReading a reading)) r

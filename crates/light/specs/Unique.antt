@@ -34,7 +34,8 @@ assembler-injective a b e = ap back e
     back : rules.Assembler → Assembler
     back a = record { n = a .n; filled = a .filled; levels = a .levels }
 
-refused-injective : {A : Type 0} (p q : Refusal) (x y : A) → answerOf (Refused p) x ≡ answerOf (Refused q) y → refusalOf p ≡ refusalOf q
+refused-injective : {A : Type 0} (p q : Refusal) (x y : A) → answerOf (Refused p) x ≡ answerOf (Refused q) y
+    → refusalOf p ≡ refusalOf q
 refused-injective p q x y e = cc
 
 verdict-injective : {A : Type 0} (v w : Verdict) (x y : A) → answerOf v x ≡ answerOf w y → v ≡ w
@@ -67,5 +68,7 @@ one-taken a reading q r c d =
     (assembler-injective (q .assembler) (r .assembler) (one-answer (c .left) (d .left)))
 
 -- `Assembler::give`
-pub one-given : (a : rules.Assembler) (before m n : List ℤ) (q r : Verdict) → Gives a before m q → Gives a before n r → (q ≡ r) × (m ≡ n)
-one-given a before m n q r c d = (verdict-injective q r (tt {0}) tt (one-answer (c .verdict) (d .verdict)), one-answer (c .left) (d .left))
+pub one-given : (a : rules.Assembler) (before m n : List ℤ) (q r : Verdict) → Gives a before m q → Gives a before n r
+    → (q ≡ r) × (m ≡ n)
+one-given a before m n q r c d =
+    (verdict-injective q r (tt {0}) tt (one-answer (c .verdict) (d .verdict)), one-answer (c .left) (d .left))

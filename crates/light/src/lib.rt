@@ -1,15 +1,13 @@
 // From light to levels: the level of a sample, readings, and the assembler of one block.
 ghost use mathlib.Core.Path.{_≡_};
-ghost use mathlib.Core.Bool.{_||_};
-ghost use Prim.Native.Nat.{_+_, _^_, _≤_, _<_};
-ghost use lib.Dec.{ltb};
+ghost use Prim.Native.Nat.{_+_, _≤_, _<_};
 ghost use lib.ListN.{length, take};
 ghost use Rattle.rules.specs.Sample.{levelOf};
 ghost use Rattle.rules.specs.Assembling as rules;
-ghost use Rattle.rules.specs.Refusals as refusals;
+ghost use Rattle.rules.specs.Refusals.{isWrongSize};
 ghost use Rattle.rules.specs.Answers.{takeAnswer, takeLeft};
 ghost use Rattle.light.specs.Values.{quantisedOf, readingOf, assemblerOf, room, Hands, Starts, Gives};
-ghost use Rattle.light.specs.Steps.{Fills, Takes};
+ghost use Rattle.light.specs.Steps.{isWrong, Fills, Takes};
 use refusal::Refusal;
 
 mod sample; // sample.rt: the steps from a sample to its level
@@ -77,7 +75,7 @@ pub fn level(s: f32) -> Quantised
 
 // Whether n is not 1..6.
 fn is_wrong_size(n: u32) -> bool
-    ensures { λ r. ⌜ r ≡ refusals.isWrongSize n ⌝ }
+    ensures { λ r. ⌜ r ≡ isWrongSize n ⌝ }
 {
     if n < 1 {
         return true;
@@ -87,7 +85,7 @@ fn is_wrong_size(n: u32) -> bool
 
 // Whether an assembler of this n and so many slots filled is refused.
 fn is_wrong(n: u32, filled: usize) -> bool
-    ensures { λ r. ⌜ r ≡ (refusals.isWrongSize n || ltb (2 ^ n) filled) ⌝ }
+    ensures { λ r. ⌜ r ≡ isWrong n filled ⌝ }
 {
     if is_wrong_size(n) {
         return true;

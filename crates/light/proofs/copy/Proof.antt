@@ -40,7 +40,8 @@ loop-less : tie.Need-loop-less Inv-loop μ-loop
 loop-less c = omega arith
 
 -- one more element copied
-copied : (levels out : List ℤ) (i : ℕ) (v : ℤ) → i < length levels → i < length out → v ≡ getD levels i (pos 0) → take i out ≡ take i levels → take (i + 1) (set out i v) ≡ take (i + 1) levels
+copied : (levels out : List ℤ) (i : ℕ) (v : ℤ) → i < length levels → i < length out → v ≡ getD levels i (pos 0)
+    → take i out ≡ take i levels → take (i + 1) (set out i v) ≡ take (i + 1) levels
 copied levels out i v h k e p =
     rw (add-one i, take-suc-set out i v k, take-suc levels i (pos 0) h, p, e) refl
 
@@ -52,7 +53,8 @@ loop-again c =
     let i = at-loop .loop .i in (
       length-set out i _ ∙ at-loop .loop .inv .0,
       omega arith,
-      copied levels out i _ (omega arith) (omega arith) (toZ-ofZ w32 (getD levels i (pos 0)) (record { sfits = c .out .given })) (at-loop .loop .inv .2),
+      copied levels out i _ (omega arith) (omega arith) (toZ-ofZ w32 (getD levels i (pos 0)) (record { sfits = c .out .given }))
+          (at-loop .loop .inv .2),
     )
 
 same-length : tie.Need-same-length Inv-loop μ-loop

@@ -32,7 +32,8 @@ negated : (q : ℕ) → q ≤ limit → pos 0 -ℤ toZ w32 (ofZ w32 (pos q)) ≡
 negated q h = ap (λ (z : ℤ). pos 0 -ℤ z) (back false q h) ∙ +ℤ-idl (negℤ (pos q))
 
 -- the level of s, from the clipped sample r that has the same level, the size of the level and the sign
-found : (t : Bool) (s r : Float) (p : ℕ) → Near 8 s r → lt r (fin false 0 (pos 0)) ≡ t → p ≡ wholeOf (mul binary32 r scale) → some (signed t (min p limit)) ≡ levelOf s
+found : (t : Bool) (s r : Float) (p : ℕ) → Near 8 s r → lt r (fin false 0 (pos 0)) ≡ t → p ≡ wholeOf (mul binary32 r scale)
+    → some (signed t (min p limit)) ≡ levelOf s
 found t s r p n l e = rw (← n .same, scaled-level r (n .held) (n .inside), l, e) refl
 
 not-finite : (s : Float) → false ≡ finite s → none ≡ levelOf s

@@ -24,7 +24,8 @@ returns c =
 float-from-bits-result : tie.Need-float-from-bits-result
 float-from-bits-result c =
     let b = c .before .args .bits in
-    subst (λ (t : Bool). T (not t)) (sym (nanBits-above binary32 b ∙ le-ltb 2139095040 (b % 2147483648) (rw (and-mask b 31) at (c .if1 .left)))) tt
+    subst (λ (t : Bool). T (not t))
+    (sym (nanBits-above binary32 b ∙ le-ltb 2139095040 (b % 2147483648) (rw (and-mask b 31) at (c .if1 .left)))) tt
 
 returns-2 : tie.Need-returns-2
 returns-2 c = refl

@@ -1,18 +1,17 @@
 -- `light::Assembler::take` meets its contract.
 use Prim.Native.Nat.{ℕ, _+_, _^_, _≤_}
-use mathlib.Core.Path.{_≡_, sym, ap, _∙_}
-use mathlib.Core.Bool.{false, _||_}
+use mathlib.Core.Path.{_≡_, sym, ap, subst, _∙_}
+use mathlib.Core.Bool.{false}
 use native.Mathlib.Omega.{arith}
 use borrow.Author.Needs.{needs}
-use lib.Dec.{ltb}
 use lib.IntN.{pos}
 use Rattle.rules.specs.Assembling.{slotsNeeded}
-use Rattle.rules.specs.Refusals.{isWrongSize}
 use Rattle.rules.specs.Answers.{takeAnswer, takeLeft}
 use Rattle.light.specs.Values.{readingOf, assemblerOf, room, Hands}
-use Rattle.light.specs.Steps.{Takes}
+use Rattle.light.specs.Steps.{isWrong, Takes}
 use Rattle.light.specs.declared.Reading.{Reading}
 use Rattle.light.specs.declared.Reading.the-variants.{Single, Pair, Erased}
+use Rattle.light.specs.declared.Assembler as code
 use Rattle.light.specs.declared.Handed.{Handed}
 use Rattle.light.proofs.Sizes.{shifted, in-room, right-n, right-filled}
 use Rattle.light.proofs.Taking.{slot-filled, size-refused, room-refused, taken, at-most-two, erased-done}
@@ -23,25 +22,34 @@ use Rattle.light.proofs.Assembler.take.Tie as tie
 abbrev needed : Reading → ℕ
 needed reading = slotsNeeded (readingOf reading)
 
--- after both tests of the assembler
-not-wrong : (p : tie.Else2) → (isWrongSize (p .before .before .before .before .args .self .n) || ltb (2 ^ (p .before .before .before .before .args .self .n)) (p .before .before .before .before .args .self .filled)) ≡ false
+-- after both tests of the assembler: the place, and what came in
+abbrev start : tie.Else2 → tie.Start
+start p = p .before .before .before .before
+
+abbrev came : tie.Else2 → code.Assembler
+came p = start p .args .self
+
+abbrev given : tie.Else2 → Reading
+given p = start p .args .reading
+
+not-wrong : (p : tie.Else2) → isWrong (came p .n) (came p .filled) ≡ false
 not-wrong p = sym (p .before .before .before .is-wrong .ensures) ∙ p .before .before .if1 .left
 
-room-left : (p : tie.Else2) → p .before .before .before .before .args .self .filled + needed (p .before .before .before .before .args .reading) ≤ 2 ^ (p .before .before .before .before .args .self .n)
+room-left : (p : tie.Else2) → came p .filled + needed (given p) ≤ 2 ^ (came p .n)
 room-left p =
-    let a = p .before .before .before .before .args .self in
-    omega (arith, p .before .slots-needed .ensures, shifted (a .n) (right-n (a .n) (a .filled) (not-wrong p)), p .if2 .left)
+    omega
+    (arith, p .before .slots-needed .ensures, shifted (came p .n) (right-n (came p .n) (came p .filled) (not-wrong p)), p .if2 .left)
 
 -- so many slots, where the reading needs them
-below-room : (p : tie.Else2) (k : ℕ) → needed (p .before .before .before .before .args .reading) ≡ k → p .before .before .before .before .args .self .filled + k ≤ room
+below-room : (p : tie.Else2) (k : ℕ) → needed (given p) ≡ k → came p .filled + k ≤ room
 below-room p k e =
-    let a = p .before .before .before .before .args .self in
-    omega (arith, room-left p, in-room (a .n) (right-n (a .n) (a .filled) (not-wrong p)))
+    omega (arith, room-left p, in-room (came p .n) (right-n (came p .n) (came p .filled) (not-wrong p)))
 
-hands : (p : tie.Else2) (r : Handed) (reading : Reading) → p .before .before .before .before .args .reading ≡ reading → Takes (assemblerOf (p .before .before .before .before .args .self)) (readingOf reading) r → Hands (takeAnswer (assemblerOf (p .before .before .before .before .args .self)) (readingOf (p .before .before .before .before .args .reading))) (takeLeft (assemblerOf (p .before .before .before .before .args .self)) (readingOf (p .before .before .before .before .args .reading))) r
+hands : (p : tie.Else2) (r : Handed) (reading : Reading) → given p ≡ reading → Takes (assemblerOf (came p)) (readingOf reading) r
+    → Hands (takeAnswer (assemblerOf (came p)) (readingOf (given p))) (takeLeft (assemblerOf (came p)) (readingOf (given p))) r
 hands p r reading e t =
-    let at-start = p .before .before .before .before in
-    taken (assemblerOf (at-start .args .self)) r (readingOf (at-start .args .reading)) (not-wrong p) (room-left p) (rw e t)
+    taken (assemblerOf (came p)) r (readingOf (given p)) (not-wrong p) (room-left p)
+    (subst (λ (x : Reading). Takes (assemblerOf (came p)) (readingOf x) r) (sym e) t)
 
 is-wrong-requires : tie.Need-is-wrong-requires
 is-wrong-requires c κs = search needs
@@ -111,10 +119,14 @@ done-requires : tie.Need-done-requires
 done-requires c κs = search needs
 
 returns-3 : tie.Need-returns-3
-returns-3 c = hands (c .before .before .before .before) (c .take-single .result) (Single (c .before .before .reading .given .0 .0)) (c .before .before .reading .given .1) (c .take-single .ensures)
+returns-3 c =
+    hands (c .before .before .before .before) (c .take-single .result) (Single (c .before .before .reading .given .0 .0))
+    (c .before .before .reading .given .1) (c .take-single .ensures)
 
 returns-4 : tie.Need-returns-4
-returns-4 c = hands (c .before .before .before .before) (c .take-pair .result) (Pair (c .before .before .reading2 .given .0 .0)) (c .before .before .reading2 .given .1) (c .take-pair .ensures)
+returns-4 c =
+    hands (c .before .before .before .before) (c .take-pair .result) (Pair (c .before .before .reading2 .given .0 .0))
+    (c .before .before .reading2 .given .1) (c .take-pair .ensures)
 
 returns-5 : tie.Need-returns-5
 returns-5 c =

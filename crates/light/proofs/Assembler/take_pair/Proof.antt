@@ -49,7 +49,8 @@ returns : tie.Need-returns
 returns c =
     let at-level = c .before .before .before in
     let at-start = at-level .before in
-    first-refused (assemblerOf (at-start .args .self)) (c .refused .result) (at-start .args .p .«in_phase») (at-start .args .p .quadrature)
+    first-refused (assemblerOf (at-start .args .self)) (c .refused .result) (at-start .args .p .«in_phase»)
+    (at-start .args .p .quadrature)
     (sym (ap quantisedOf (c .before .enum-told .given .1)) ∙ at-level .level .ensures)
     (c .refused .ensures .0)
     (ap assemblerOf (c .refused .ensures .1))
@@ -60,7 +61,8 @@ returns-2 c =
     let at-first = at-level2 .before .before in
     let at-level = at-first .before .before in
     let at-start = at-level .before in
-    second-refused (assemblerOf (at-start .args .self)) (c .refused2 .result) (at-start .args .p .«in_phase») (at-start .args .p .quadrature) (at-first .first .given .0 .0)
+    second-refused (assemblerOf (at-start .args .self)) (c .refused2 .result) (at-start .args .p .«in_phase»)
+    (at-start .args .p .quadrature) (at-first .first .given .0 .0)
     (sym (ap quantisedOf (at-first .first .given .1)) ∙ at-level .level .ensures)
     (sym (ap quantisedOf (c .before .enum-told2 .given .1)) ∙ at-level2 .level2 .ensures)
     (c .refused2 .ensures .0)
@@ -82,8 +84,10 @@ returns-3 c =
     (c .done .ensures .0)
     (ap assemblerOf (c .done .ensures .1)
     ∙ slot-filled (c .before .before .fill .result) (c .before .fill2 .result) _ (c .before .fill2 .ensures)
-    ∙ ap (fillSlot (assemblerOf (c .before .before .fill .result))) (toZ-ofZ w32 z (record { sfits = c .before .before .before .known-told2 .given .0 .1 }))
-    ∙ ap (λ (b : Assembler). fillSlot b z) (slot-filled (at-start .args .self) (c .before .before .fill .result) _ (c .before .before .fill .ensures) ∙ ap (fillSlot a) (toZ-ofZ w32 y (record { sfits = at-level2 .before .known-told .given .0 .1 }))))
+    ∙ ap (fillSlot (assemblerOf (c .before .before .fill .result)))
+    (toZ-ofZ w32 z (record { sfits = c .before .before .before .known-told2 .given .0 .1 }))
+    ∙ ap (λ (b : Assembler). fillSlot b z)
+    (slot-filled (at-start .args .self) (c .before .before .fill .result) _ (c .before .before .fill .ensures) ∙ ap (fillSlot a) (toZ-ofZ w32 y (record { sfits = at-level2 .before .known-told .given .0 .1 }))))
 
 pub take-pair-spec : {M : Type 1} → statement M
 take-pair-spec =

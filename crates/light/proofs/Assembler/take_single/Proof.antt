@@ -37,7 +37,8 @@ returns c =
     (c .done .ensures .0)
     (ap assemblerOf (c .done .ensures .1)
     ∙ slot-filled (at-start .args .self) (c .before .fill .result) _ (c .before .fill .ensures)
-    ∙ ap (fillSlot (assemblerOf (at-start .args .self))) (toZ-ofZ w32 z (record { sfits = c .before .before .known-told .given .0 .1 })))
+    ∙ ap (fillSlot (assemblerOf (at-start .args .self)))
+    (toZ-ofZ w32 z (record { sfits = c .before .before .known-told .given .0 .1 })))
 
 returns-2 : tie.Need-returns-2
 returns-2 c =

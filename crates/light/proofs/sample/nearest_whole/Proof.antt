@@ -53,7 +53,8 @@ unfolding nearestWhole
 returns-2 c =
     let a = c .before .before .args .a in
     let b = c .before .before .args .b in
-    more (a / b) (a % b * 2) b (compare (a % b * 2) b) (compared (a % b * 2) b) (omega (arith, mod-lt a (c .before .before .pre .1)))
+    more (a / b) (a % b * 2) b (compare (a % b * 2) b) (compared (a % b * 2) b)
+    (omega (arith, mod-lt a (c .before .before .pre .1)))
 
 add-result-2 : tie.Need-add-result-2
 add-result-2 c = record { fits = omega (arith, div-le-self (c .before .before .args .a) (c .before .before .args .b)) }
@@ -63,7 +64,8 @@ unfolding nearestWhole
 returns-3 c =
     let a = c .before .before .args .a in
     let b = c .before .before .args .b in
-    half (a / b) (a % b * 2) b (compare (a % b * 2) b) (compared (a % b * 2) b) (omega (arith, mod-lt a (c .before .before .pre .1)))
+    half (a / b) (a % b * 2) b (compare (a % b * 2) b) (compared (a % b * 2) b)
+    (omega (arith, mod-lt a (c .before .before .pre .1)))
 
 pub nearest-whole-spec : {M : Type 1} → statement M
 nearest-whole-spec =
