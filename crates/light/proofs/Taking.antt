@@ -8,6 +8,11 @@ use native.Mathlib.Omega.{arith}
 use borrow.Author.Tests.{lt-ltb, le-ltb}
 use lib.IntN.{ℤ, pos}
 use lib.Ieee.{Float}
+use lib.ListN.{set}
+use lib.Signed.{mag}
+use mir.Syntax.{w32}
+use mir.Val.{ofZ, toZ}
+use mir.ValLaws.{toZ-ofZ}
 use Rattle.rules.specs.Sample.{levelOf}
 use Rattle.rules.specs.Assembling.{Assembler, Reading, single, pair, erased, firstWithout, fillSlot, fillSlots, slotsNeeded}
 use Rattle.rules.specs.Answers.{takeAnswer, takeLeft}
@@ -18,9 +23,16 @@ use Rattle.light.specs.declared.Assembler as code
 use Rattle.light.specs.declared.Handed.{Handed}
 use Rattle.light.specs.declared.Verdict.the-variants.{Done, Refused}
 
--- a slot that the code filled
-pub slot-filled : (a b : code.Assembler) (z : ℤ) → Fills a z b → assemblerOf b ≡ fillSlot (assemblerOf a) z
-slot-filled a b z f = λ i. record { n = f .size i; filled = (f .count ∙ add-one (a .filled)) i; levels = f .stored i }
+-- a slot that the code filled with the level z, read back from its bits
+pub slot-filled : (a b : code.Assembler) (z : ℤ) → mag z < 2 ^ 31 → Fills a (toZ w32 (ofZ w32 z)) b
+    → assemblerOf b ≡ fillSlot (assemblerOf a) z
+slot-filled a b z h f =
+    let back = toZ-ofZ w32 z (record { sfits = h }) in
+    λ i. record {
+      n = f .size i;
+      filled = (f .count ∙ add-one (a .filled)) i;
+      levels = (f .stored ∙ ap (set (a .levels) (a .filled)) back) i;
+    }
 
 module _ (a : Assembler) (r : Handed) where
   pub single-done : (s : Float) (z : ℤ) → some z ≡ levelOf s → r .verdict ≡ Done → assemblerOf (r .assembler) ≡ fillSlot a z

@@ -108,11 +108,13 @@ all-taken : (readings : List Reading) (a : Assembler) → isWrongSize (a .n) ≡
 unfolding takeAll slotsOf AllFinite AllTaken
 all-taken [] a w r h f = (tt, none-filled a)
 all-taken (reading ∷ rest) a w r h f =
-    let k : a .filled + slotsNeeded reading ≤ 2 ^ (a .n) = omega (arith, length-append (slotLevels reading) (slotsOf rest)) in
+    let l = length-append (slotLevels reading) (slotsOf rest) in
+    let k : a .filled + slotsNeeded reading ≤ 2 ^ (a .n) = omega (arith, l) in
     let b = takeLeft a reading in
     let p = is-filled a reading w (f .0) k r in
     let e : 2 ^ (b .n) ≡ 2 ^ (a .n) = ap (λ (n : ℕ). 2 ^ n) (p .size) in
-    let q = all-taken rest b (ap isWrongSize (p .size) ∙ w) (omega (arith, e, p .space)) (omega (arith, e, p .count, length-append (slotLevels reading) (slotsOf rest))) (f .1) in
+    let v = ap isWrongSize (p .size) ∙ w in
+    let q = all-taken rest b v (omega (arith, e, p .space)) (omega (arith, e, p .count, l)) (f .1) in
     ((is-taken a reading w (f .0) k, q .0), then a b (takeAll b rest) (slotLevels reading) (slotsOf rest) p (q .1))
 
 -- every reading is taken, the levels are given out, and they are the levels of the readings in order

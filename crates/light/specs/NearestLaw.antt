@@ -129,20 +129,23 @@ gap-unlike false (suc x) (suc y) = omega arith
 gap-unlike true x zero = refl
 gap-unlike true x (suc y) = refl
 
+-- how far a multiple of b is from ±a
+multiple-like : (s : Bool) (a b q : ℕ) → natAbs (signed s q *ℤ pos b -ℤ signed s a) ≡ apart (q * b) a
+multiple-like s a b q = ap (λ (z : ℤ). natAbs (z -ℤ signed s a)) (times s q b) ∙ gap-like s (q * b) a
+
+multiple-unlike : (s : Bool) (a b q : ℕ) → natAbs (signed (not s) q *ℤ pos b -ℤ signed s a) ≡ q * b + a
+multiple-unlike s a b q = ap (λ (z : ℤ). natAbs (z -ℤ signed s a)) (times (not s) q b) ∙ gap-unlike s (q * b) a
+
 signed-nearest : (s : Bool) (a b q : ℕ) → Nearest a b q → NearestSigned s a b (signed s q)
 signed-nearest s a b q n =
-    let g : natAbs (signed s q *ℤ pos b -ℤ signed s a) ≡ apart (q * b) a = ap (λ (z : ℤ). natAbs (z -ℤ signed s a)) (times s q b) ∙ gap-like s (q * b) a in
-    record { near = rw g (n .near); even = rw (g, abs-signed s q) (n .even) }
+    record { near = rw (multiple-like s a b q) (n .near); even = rw (multiple-like s a b q, abs-signed s q) (n .even) }
 
 nearest-unsigned : (s : Bool) (a b q : ℕ) → NearestSigned s a b (signed s q) → Nearest a b q
 nearest-unsigned s a b q n =
-    let g : natAbs (signed s q *ℤ pos b -ℤ signed s a) ≡ apart (q * b) a = ap (λ (z : ℤ). natAbs (z -ℤ signed s a)) (times s q b) ∙ gap-like s (q * b) a in
-    record { near = rw g at (n .near); even = rw (g, abs-signed s q) at (n .even) }
+    record { near = rw (multiple-like s a b q) at (n .near); even = rw (multiple-like s a b q, abs-signed s q) at (n .even) }
 
 other-sign : (s : Bool) (a b k : ℕ) → 0 < b → NearestSigned s a b (signed (not s) (suc k)) → ⊥
-other-sign s a b k B n =
-    let g : natAbs (signed (not s) (suc k) *ℤ pos b -ℤ signed s a) ≡ suc k * b + a = ap (λ (z : ℤ). natAbs (z -ℤ signed s a)) (times (not s) (suc k) b) ∙ gap-unlike s (suc k * b) a in
-    omega (arith, rw (g, suc-mul k b) at (n .near))
+other-sign s a b k B n = omega (arith, rw (multiple-unlike s a b (suc k), suc-mul k b) at (n .near))
 
 only : (s : Bool) (a b : ℕ) (z : ℤ) → 0 < b → NearestSigned s a b z → z ≡ signed s (nearestWhole a b)
 only false a b (pos q) B n = ap pos (nearest-only a b q (nearestWhole a b) B (nearest-unsigned false a b q n) (nearest-whole a b B))

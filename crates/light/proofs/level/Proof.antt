@@ -64,18 +64,20 @@ sub-t8 c =
 returns : tie.Need-returns
 unfolding ofBits
 returns c =
+    let at-near = c .before .before .before in
     let p = c .before .before .nearest .result in
     let h : min p limit ≤ limit = min-le-right p limit in
     rw (c .before .clipped .ensures, negated (min p limit) h, back true (min p limit) h)
-    (found true (c .before .before .before .before .before .before .args .s) (c .before .before .before .near .result) p (c .before .before .before .near .ensures) (c .if2 .taken) (c .before .before .nearest .ensures))
+    (found true (at-near .before .before .before .args .s) (at-near .near .result) p (at-near .near .ensures) (c .if2 .taken) (c .before .before .nearest .ensures))
 
 returns-2 : tie.Need-returns-2
 unfolding ofBits
 returns-2 c =
+    let at-near = c .before .before .before in
     let p = c .before .before .nearest .result in
     let h : min p limit ≤ limit = min-le-right p limit in
     rw (c .before .clipped .ensures, back false (min p limit) h)
-    (found false (c .before .before .before .before .before .before .args .s) (c .before .before .before .near .result) p (c .before .before .before .near .ensures) (c .if2 .left) (c .before .before .nearest .ensures))
+    (found false (at-near .before .before .before .args .s) (at-near .near .result) p (at-near .near .ensures) (c .if2 .left) (c .before .before .nearest .ensures))
 
 returns-3 : tie.Need-returns-3
 returns-3 c = not-finite (c .before .before .args .s) (sym (c .if1 .left) ∙ c .before .is-finite .ensures)

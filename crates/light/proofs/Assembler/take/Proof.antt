@@ -73,7 +73,9 @@ add-if2 c =
     let at-start = c .before .before .before in
     let a = at-start .args .self in
     let e = sym (c .before .before .is-wrong .ensures) ∙ c .before .if1 .left in
-    record { fits = omega (arith, c .slots-needed .ensures, at-most-two (readingOf (at-start .args .reading)), right-filled (a .n) (a .filled) e, in-room (a .n) (right-n (a .n) (a .filled) e)) }
+    let f = right-filled (a .n) (a .filled) e in
+    let r = in-room (a .n) (right-n (a .n) (a .filled) e) in
+    record { fits = omega (arith, c .slots-needed .ensures, at-most-two (readingOf (at-start .args .reading)), f, r) }
 
 cast-if2 : tie.Need-cast-if2
 cast-if2 c = search needs
@@ -132,7 +134,8 @@ returns-5 : tie.Need-returns-5
 returns-5 c =
     let a = c .before .before .before .before .before .before .before .before .args .self in
     hands (c .before .before .before .before) (c .done .result) Erased (c .before .before .enum-told .given .1)
-    (erased-done (assemblerOf a) (c .done .result) (c .done .ensures .0) (ap assemblerOf (c .done .ensures .1) ∙ slot-filled a (c .before .fill .result) (pos 0) (c .before .fill .ensures)))
+    (erased-done (assemblerOf a) (c .done .result) (c .done .ensures .0)
+    (ap assemblerOf (c .done .ensures .1) ∙ slot-filled a (c .before .fill .result) (pos 0) (omega arith) (c .before .fill .ensures)))
 
 pub take-spec : {M : Type 1} → statement M
 take-spec =

@@ -2,8 +2,6 @@
 use mathlib.Core.Path.{_≡_, sym, ap, _∙_}
 use native.Mathlib.Omega.{arith}
 use borrow.Author.Needs.{needs}
-use mir.Syntax.{w32}
-use mir.ValLaws.{toZ-ofZ}
 use Rattle.rules.specs.Assembling.{Assembler, fillSlot}
 use Rattle.light.specs.Values.{quantisedOf, assemblerOf}
 use Rattle.light.proofs.Taking.{slot-filled, first-refused, second-refused, pair-done}
@@ -70,24 +68,23 @@ returns-2 c =
 
 returns-3 : tie.Need-returns-3
 returns-3 c =
-    let at-second = c .before .before .before .before in
-    let at-level2 = at-second .before .before in
+    let at-one = c .before .before .fill .result in
+    let at-second = c .before .before .before in
+    let at-level2 = at-second .before .before .before in
     let at-first = at-level2 .before .before in
     let at-level = at-first .before .before in
     let at-start = at-level .before in
     let a = assemblerOf (at-start .args .self) in
     let y = at-first .first .given .0 .0 in
-    let z = at-second .second .given .0 .0 in
+    let z = at-second .before .second .given .0 .0 in
     pair-done a (c .done .result) (at-start .args .p .«in_phase») (at-start .args .p .quadrature) y z
     (sym (ap quantisedOf (at-first .first .given .1)) ∙ at-level .level .ensures)
-    (sym (ap quantisedOf (at-second .second .given .1)) ∙ at-level2 .level2 .ensures)
+    (sym (ap quantisedOf (at-second .before .second .given .1)) ∙ at-level2 .level2 .ensures)
     (c .done .ensures .0)
     (ap assemblerOf (c .done .ensures .1)
-    ∙ slot-filled (c .before .before .fill .result) (c .before .fill2 .result) _ (c .before .fill2 .ensures)
-    ∙ ap (fillSlot (assemblerOf (c .before .before .fill .result)))
-    (toZ-ofZ w32 z (record { sfits = c .before .before .before .known-told2 .given .0 .1 }))
+    ∙ slot-filled at-one (c .before .fill2 .result) z (at-second .known-told2 .given .0 .1) (c .before .fill2 .ensures)
     ∙ ap (λ (b : Assembler). fillSlot b z)
-    (slot-filled (at-start .args .self) (c .before .before .fill .result) _ (c .before .before .fill .ensures) ∙ ap (fillSlot a) (toZ-ofZ w32 y (record { sfits = at-level2 .before .known-told .given .0 .1 }))))
+    (slot-filled (at-start .args .self) at-one y (at-level2 .before .known-told .given .0 .1) (c .before .before .fill .ensures)))
 
 pub take-pair-spec : {M : Type 1} → statement M
 take-pair-spec =

@@ -1,9 +1,6 @@
 -- `light::Assembler::take_single` meets its contract.
 use mathlib.Core.Path.{_≡_, sym, ap, _∙_}
 use borrow.Author.Needs.{needs}
-use mir.Syntax.{w32}
-use mir.ValLaws.{toZ-ofZ}
-use Rattle.rules.specs.Assembling.{fillSlot}
 use Rattle.light.specs.Values.{quantisedOf, assemblerOf}
 use Rattle.light.proofs.Taking.{slot-filled, single-done, single-refused}
 use Rattle.light.proofs.Assembler.take_single.Statement.{statement}
@@ -36,9 +33,7 @@ returns c =
     (sym (ap quantisedOf (c .before .before .before .z .given .1)) ∙ at-level .level .ensures)
     (c .done .ensures .0)
     (ap assemblerOf (c .done .ensures .1)
-    ∙ slot-filled (at-start .args .self) (c .before .fill .result) _ (c .before .fill .ensures)
-    ∙ ap (fillSlot (assemblerOf (at-start .args .self)))
-    (toZ-ofZ w32 z (record { sfits = c .before .before .known-told .given .0 .1 })))
+    ∙ slot-filled (at-start .args .self) (c .before .fill .result) z (c .before .before .known-told .given .0 .1) (c .before .fill .ensures))
 
 returns-2 : tie.Need-returns-2
 returns-2 c =
