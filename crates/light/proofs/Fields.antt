@@ -1,5 +1,5 @@
 -- An f32 by the exponent's field and the digits of its bits: its value, and the whole number nearest to its magnitude.
-use Prim.Native.Nat.{ℕ, zero, suc, _+_, _-_, _*_, _/_, _%_, _^_, _≤_, _<_}
+use Prim.Native.Nat.{ℕ, zero, suc, _+_, _-_, _*_, _/_, _^_, _≤_, _<_}
 use mathlib.Core.Path.{_≡_, refl, sym, ap, subst, _∙_}
 use mathlib.Core.Bool.{Bool, true, false, cond}
 use native.Mathlib.Nat.{mul-assoc, mul-right-comm, mul-le-mul-left, mul-le-mul-right, le-of-mul-le-mul-right, le-trans, le-of-eq, lt-of-lt-of-le, mod-lt, zero-mul, pow-succ'}
@@ -14,7 +14,7 @@ use lib.Ieee.Exact.{HasValue, odd-sign}
 use lib.Ieee.Fits.{down-pos}
 use lib.Ieee.Nearest.{closest-same}
 use Rattle.rules.specs.Sample.{nearestWhole}
-use Rattle.light.specs.NearestLaw.{Nearest, nearest-whole, nearest-only}
+use Rattle.light.specs.NearestLaw.{nearest-whole, nearest-only}
 use Rattle.light.specs.Steps.{within, wholeOf}
 
 -- ---- a float that is ±a / c

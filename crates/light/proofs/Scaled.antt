@@ -2,14 +2,14 @@
 use Prim.Native.Nat.{ℕ, zero, suc, _+_, _*_, _^_, _≤_, _<_, min}
 use mathlib.Core.Path.{_≡_, refl, sym, ap, subst, _∙_}
 use mathlib.Core.Bool.{Bool, true, false}
-use mathlib.Core.Option.{Option, some}
-use native.Mathlib.Nat.{mul-assoc, mul-comm, mul-right-comm, mul-one, zero-mul, le-trans, mul-le-mul-right, lt-of-lt-of-le}
+use mathlib.Core.Option.{some}
+use native.Mathlib.Nat.{mul-assoc, mul-comm, mul-right-comm, mul-one, zero-mul, lt-of-lt-of-le}
 use native.Mathlib.Omega.{arith}
 use borrow.Author.Tests.{ltb-false, le-ltb}
 use lib.Dec.{T, ltb, leb→le, le→leb}
 use lib.IntN.{ℤ, pos}
 use lib.Pow.{pow-mono, pow-add, shl-lt}
-use lib.Ieee.{Float, nan, inf, fin, binary32, up, down, fits, lt, mul, round}
+use lib.Ieee.{Float, fin, binary32, up, down, fits, lt, mul, round}
 use lib.Ieee.Exact.{HasValue, round-exact}
 use lib.Ieee.Fits.{down-pos}
 use Rattle.rules.specs.Level.{limit}

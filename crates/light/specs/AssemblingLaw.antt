@@ -1,18 +1,18 @@
 -- Law of assembling: from a new assembler, readings that are all finite and fill N slots, taken one after another, are all taken,
 -- and what is given out are exactly the levels of those readings in order.
-use Prim.Native.Nat.{ℕ, zero, suc, _+_, _^_, _≤_, _<_}
+use Prim.Native.Nat.{ℕ, suc, _+_, _^_, _≤_, _<_}
 use mathlib.Core.Path.{_≡_, refl, sym, ap, _∙_}
-use mathlib.Core.Bool.{Bool, true, false, _||_}
+use mathlib.Core.Bool.{false, _||_}
 use mathlib.Core.Option.{Option, none, some}
 use mathlib.Core.List.{List, [], _∷_, _++_, map, append-nil, append-assoc, map-append}
 use native.Mathlib.Omega.{arith}
 use borrow.Author.Tests.{le-ltb, eq-eqb}
 use lib.Dec.{ltb}
 use lib.IntN.{ℤ, pos}
-use lib.ListN.{length, take, set, replicate, length-append, length-set, length-replicate}
+use lib.ListN.{length, take, length-append, length-set, length-replicate}
 use lib.Seq.{take-suc-set}
 use Rattle.rules.specs.Assembling.{Assembler, Reading, slotLevels, slotsNeeded, firstWithout, start, fillSlot, fillSlots, takeReading}
-use Rattle.rules.specs.Refusals.{Refusal, Answer, done, refuseAt, isWrongSize, notFinite}
+use Rattle.rules.specs.Refusals.{done, refuseAt, isWrongSize, notFinite}
 use Rattle.rules.specs.Answers.{takeAnswer, takeLeft, giveAnswer, giveLeft}
 
 -- the assembler after readings are taken one after another

@@ -1,7 +1,7 @@
 -- What the private steps promise: from a sample to its level, and taking a reading.
 use Prim.Native.Nat.{ℕ, _+_, _*_, _^_}
 use mathlib.Core.Path.{_≡_}
-use mathlib.Core.Bool.{Bool, true, false, _||_}
+use mathlib.Core.Bool.{Bool, false, _||_}
 use mathlib.Core.List.{[], _∷_}
 use lib.Dec.{T, leb, ltb}
 use lib.IntN.{ℤ}

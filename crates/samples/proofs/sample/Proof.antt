@@ -5,7 +5,7 @@ use mathlib.Core.Bool.{Bool, not}
 use borrow.Author.Tests.{lt-ltb, le-ltb}
 use lib.Bits.{and-mask}
 use lib.Dec.{T}
-use lib.Ieee.{Float, nan, inf, fin, binary32, isNan, ofBits, nanBits, div}
+use lib.Ieee.{Float, nan, binary32, isNan, ofBits, div}
 use lib.Ieee.Bits.{nanBits-is, nanBits-above}
 use Rattle.samples.proofs.sample.Statement.{statement}
 use Rattle.samples.proofs.sample.Tie as tie

@@ -1,9 +1,7 @@
 -- `light::Assembler::new` meets its contract.
-use mathlib.Core.Path.{_≡_, refl, sym, ap, _∙_}
-use mathlib.Core.Bool.{Bool, true, false}
+use mathlib.Core.Path.{_≡_, sym, _∙_}
+use mathlib.Core.Bool.{true, false}
 use borrow.Author.Needs.{needs}
-use lib.IntN.{ℤ}
-use Rattle.rules.specs.Assembling as rules
 use Rattle.rules.specs.Refusals.{isWrongSize}
 use Rattle.rules.specs.Answers.{newAnswer}
 use Rattle.light.proofs.Assembler.new.Statement.{statement}

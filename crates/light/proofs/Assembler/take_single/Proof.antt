@@ -1,5 +1,5 @@
 -- `light::Assembler::take_single` meets its contract.
-use mathlib.Core.Path.{_≡_, sym, ap, _∙_}
+use mathlib.Core.Path.{sym, ap, _∙_}
 use borrow.Author.Needs.{needs}
 use Rattle.light.specs.Values.{quantisedOf, assemblerOf}
 use Rattle.light.proofs.Taking.{slot-filled, single-done, single-refused}

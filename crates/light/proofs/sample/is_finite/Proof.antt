@@ -1,6 +1,6 @@
 -- `light::sample::is_finite` meets its contract: only NaN differs from itself, and the two infinities are told by comparison.
 use mathlib.Core.Path.{_≡_, refl, sym, ap, subst}
-use mathlib.Core.Bool.{Bool, true, false, true≢false}
+use mathlib.Core.Bool.{true, false, true≢false}
 use lib.Dec.{T}
 use lib.Ieee.{Float, nan, inf, fin, eq, ne, neg, ofBits, nanBits}
 use lib.Ieee.Compare.{differs-from-itself}

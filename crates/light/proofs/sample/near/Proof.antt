@@ -4,12 +4,12 @@ use mathlib.Core.Path.{_≡_, refl, sym, subst, _∙_}
 use mathlib.Core.Bool.{Bool, true, false, true≢false}
 use native.Mathlib.Nat.{mul-one}
 use native.Mathlib.Omega.{arith}
-use borrow.Author.Tests.{ltb-true, ltb-false, le-leb}
+use borrow.Author.Tests.{ltb-true, ltb-false}
 use lib.IntN.{ℤ, pos}
 use lib.Dec.{T, le→leb}
-use lib.Ieee.{Float, nan, inf, fin, binary32, up, down, lt, neg, fits, ofBits}
+use lib.Ieee.{Float, fin, binary32, up, down, lt, neg, fits, ofBits}
 use lib.Ieee.Scale.{finite}
-use Rattle.light.specs.Steps.{within, Near}
+use Rattle.light.specs.Steps.{Near}
 use Rattle.light.proofs.Clip.{far-level}
 use Rattle.light.proofs.sample.near.Statement.{statement}
 use Rattle.light.proofs.sample.near.Tie as tie

@@ -7,7 +7,7 @@ use native.Mathlib.Omega.{arith}
 use borrow.Author.Needs.{needs}
 use lib.Dec.{T}
 use lib.Pow.{pow-pos, shl-exact}
-use lib.Ieee.{Float, nan, inf, fin, binary32, fits, isNan}
+use lib.Ieee.{Float, fin, binary32, fits, isNan}
 use Rattle.rules.specs.Sample.{nearestWhole}
 use Rattle.light.specs.Steps.{within}
 use Rattle.light.proofs.Fields.{exponent, digits, digits-lt, exponent-le, below-half, from-half}
