@@ -17,3 +17,7 @@ runningOf s = record { kept = keptOf s; visits = s .visits }
 -- none once the allowance was used up
 abbrev pub stateOf : Walked → Option (State keepBest)
 stateOf s = cond (s .stopped) none (some (runningOf s))
+
+-- no best word and no visit
+abbrev pub empty : State keepBest
+empty = record { kept = nothing; visits = 0 }

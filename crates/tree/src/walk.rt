@@ -1,6 +1,7 @@
 // The walk: depth-first recursion over the levels of the tree, the best word by value.
 // Words are in seat order; a word is put back in index order where it is kept.
 ghost use mathlib.Core.Path.{_≡_};
+ghost use mathlib.Core.Option.{some};
 ghost use Prim.Native.Nat.{_*_, _/_, _%_, _^_, _<_};
 ghost use lib.ListN.{getD};
 ghost use lib.Bits.{bitAnd, bitXor};
@@ -9,13 +10,15 @@ ghost use Rattle.rules.specs.Walk.{keepBest};
 ghost use Rattle.laws.specs.Allowance.{walkIn};
 ghost use Rattle.laws.specs.SeatWords.{unseat};
 ghost use Rattle.word.specs.Words.{wordOf};
-ghost use Rattle.tree.specs.States.{stateOf};
+ghost use Rattle.tree.specs.States.{empty, stateOf};
 ghost use Rattle.tree.specs.Tables.{Inside, entryAt};
-ghost use Rattle.tree.specs.Nodes.{Given, rowCandidates};
+ghost use Rattle.tree.specs.Nodes.{Table, Given, rowCandidates};
+ghost use Rattle.tree.specs.Seating.{Seated};
 use crate::seat::unseated;
 use crate::state::Walked;
 use crate::state::farther;
 use crate::state::keep_word;
+use crate::state::start;
 use word::Word;
 
 // What every node of one tree shares: the frozen mask in seat order, and how many indices a group has.
@@ -117,4 +120,12 @@ fn node(
         j += 1;
     }
     s
+}
+
+// The walk from the first level, with no best word.
+pub(crate) fn walk(rows: &[[u64; 256]; 8], index: &[usize; 64], covered: &[Word; 64], tree: Tree, left: usize) -> Walked
+    requires { ⌜ Seated (now index) (tree .n) (tree .folding) × Table (now rows) (now covered) tree left ⌝ }
+    ensures { λ r. ⌜ stateOf r ≡ walkIn keepBest (tree .allowance) (rowCandidates (now (rows .entry)) tree) left 0 0 (some empty) ⌝ }
+{
+    node(rows, index, covered, tree, left, 0, 0, 0, start())
 }
