@@ -1,0 +1,2 @@
+// Decoding by the folded tree.
+mod cost;
