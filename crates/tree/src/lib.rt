@@ -1,2 +1,3 @@
 // Decoding by the folded tree.
 mod cost;
+mod row;
