@@ -1,14 +1,12 @@
 -- A list filled from both ends with the elements of another one: what stands where, store by store.
-use Prim.Native.Nat.{ℕ, zero, suc, _+_, _-_, _≤_, _<_}
-use mathlib.Core.Path.{_≡_, refl, sym, ap, _∙_}
+use Prim.Native.Nat.{ℕ, suc, _+_, _-_, _≤_, _<_}
+use mathlib.Core.Path.{_≡_, refl, sym, _∙_}
 use mathlib.Core.Logic.{_≢_}
-use mathlib.Core.List.{List, _++_, _∷_, []}
-use native.Mathlib.Nat.{add-zero, not-suc-le-zero}
+use mathlib.Core.List.{List, _++_}
 use native.Mathlib.Decide.{ℕ-discrete, decLt}
-use native.Mathlib.Numerals.{add-one}
 use native.Mathlib.Omega.{arith}
-use lib.ListN.{length, getD, take, drop, set, length-set, length-append, length-drop, List·getD-append}
-use lib.Seq.{getD-set-same, getD-set-other, getD-drop, getD-append-add, drop-drop, getD-take, getD-at, take-take, take-at, length-take-le, ext-getD}
+use lib.ListN.{length, getD, drop, set, length-set, length-append, length-drop, List·getD-append}
+use lib.Seq.{getD-set-same, getD-set-other, getD-drop, getD-append-add, ext-getD}
 
 -- `to`, which began as `old`, has the elements of `new` up to i and from k on; what lies beyond them is as it was
 pub record BothEnds (new old to : List ℕ) (i k : ℕ) : Type 0 where

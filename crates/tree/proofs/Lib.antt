@@ -1,3 +1,4 @@
 pub mod Costs
 pub mod BothEnds
 pub mod Doubling
+pub mod Building

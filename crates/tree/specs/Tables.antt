@@ -1,5 +1,5 @@
 -- How contracts read the levels at the seats of a group, and the table of sorted rows.
-use Prim.Native.Nat.{ℕ, _+_, _*_, _/_, _%_, _^_, _<_}
+use Prim.Native.Nat.{ℕ, _+_, _*_, _/_, _%_, _^_, _≤_, _<_}
 use mathlib.Core.Path.{_≡_}
 use mathlib.Core.Bool.{true, not, cond}
 use mathlib.Core.Option.{Option, some, none}
@@ -18,6 +18,10 @@ firstOut levels = firstBelow (length levels) (λ i. not (inRange (levelAt levels
 -- the slot that a search among so many slots ended at, or none at their number
 abbrev pub slotFound : ℕ → ℕ → Option ℕ
 slotFound slots i = cond (ltb i slots) (some i) none
+
+-- a group has 1, 2, 4 or 8 slots
+abbrev pub GroupSize : ℕ → Type 0
+GroupSize size = (f : ℕ) × (f ≤ 3) × (size ≡ 2 ^ f)
 
 -- the cost of bit b in slot t of the group whose first seat is given
 abbrev pub seatCost : List ℤ → List ℕ → ℕ → ℕ → ℕ → ℕ
