@@ -1,13 +1,13 @@
 -- A group's row while it is built, slot by slot: its entries are small, and what follows it stays.
 use Prim.Native.Nat.{ℕ, suc, _+_, _*_, _-_, _^_, _≤_, _<_}
 use mathlib.Core.Path.{_≡_, refl, sym, ap, _∙_}
-use mathlib.Core.List.{List, [], _∷_, _++_}
-use native.Mathlib.Nat.{not-suc-le-zero}
+use mathlib.Core.List.{List, [], _∷_, _++_, append-nil}
+use native.Mathlib.Nat.{le-of-eq, not-suc-le-zero}
 use native.Mathlib.Omega.{arith}
 use lib.IntN.{ℤ}
-use lib.ListN.{length, getD, take, drop, set, length-append, length-drop}
+use lib.ListN.{length, getD, take, drop, set, length-append, length-drop, drop-of-length-le}
 use lib.Pow.{pow-mono}
-use lib.Seq.{getD-take, take-at, drop-append-add, drop-drop}
+use lib.Seq.{getD-take, take-at, take-all, drop-append-add, drop-drop}
 use Rattle.rules.specs.Level.{limit}
 use Rattle.laws.specs.GreatestDistance.{slot-greatest}
 use Rattle.laws.specs.SortedLists.{mem-getD}
@@ -52,3 +52,10 @@ module _ (cost : ℕ → ℕ → ℕ) where
     -- a longer row in its place
     pub built-more : (k : ℕ) {new : List ℕ} → t ≤ k → new ≡ rowOf cost k ++ drop (2 ^ k) row → new ≡ rowOf cost k ++ drop (2 ^ k) old
     built-more k {new} h f = f ∙ ap (λ (r : List ℕ). rowOf cost k ++ r) (ap (λ (s : List ℕ). drop (2 ^ k) s) e ∙ drop-behind (rowOf cost t) old (2 ^ t) (2 ^ k) (row-length cost t) (pow-mono h))
+
+-- a list whose part from `at` on begins with `row` in place of its first n elements
+pub part-put : (packed : List ℕ) (at n : ℕ) (row : List ℕ) {part : List ℕ} → part ≡ row ++ drop n (take (length packed - at) (drop at packed))
+    → take at packed ++ (part ++ drop (length packed - at) (drop at packed)) ≡ take at packed ++ (row ++ drop (at + n) packed)
+part-put packed at n row {part} e =
+    let long : length (drop at packed) ≤ length packed - at = le-of-eq (length-drop at packed) in
+    rw (drop-of-length-le (drop at packed) long, append-nil part, e, take-all (length packed - at) (drop at packed) long, drop-drop n at packed)

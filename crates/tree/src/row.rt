@@ -69,7 +69,14 @@ fn seat_level(levels: &[i32], index: &[usize; 64], seat: usize) -> i32
 }
 
 // From the row of a group's first t slots, that with slot t.
-fn add_slot(from: &[u64], to: &mut [u64], t: usize, levels: &[i32], index: &[usize; 64], first: usize)
+fn add_slot(
+    from: &[u64],
+    to: &mut [u64],
+    t: usize,
+    levels: &[i32],
+    index: &[usize; 64],
+    first: usize,
+)
     requires { ⌜ (t < 8) × (first + t < 64) × Seated (now levels) (now index) first (suc t) ⌝ }
     requires { ⌜ (2 ^ t ≤ length (now from)) × (2 ^ suc t ≤ length (now to)) ⌝ }
     requires { ⌜ take (2 ^ t) (now from) ≡ rowOf (seatCost (now levels) (now index) first) t ⌝ }
@@ -77,11 +84,24 @@ fn add_slot(from: &[u64], to: &mut [u64], t: usize, levels: &[i32], index: &[usi
 {
     let m: usize = 1 << t;
     let costs = slot_costs(seat_level(levels, index, first + t));
-    double(from, to, m, (costs.zero as u64) * 256, (costs.one as u64) * 256 + (m as u64));
+    double(
+        from,
+        to,
+        m,
+        (costs.zero as u64) * 256,
+        (costs.one as u64) * 256 + (m as u64),
+    );
 }
 
 // The row of the group whose first seat is given, of 1 slot or of an even number, two a turn.
-fn fill_row(row: &mut [u64], spare: &mut [u64], levels: &[i32], index: &[usize; 64], first: usize, size: usize)
+fn fill_row(
+    row: &mut [u64],
+    spare: &mut [u64],
+    levels: &[i32],
+    index: &[usize; 64],
+    first: usize,
+    size: usize,
+)
     requires { ⌜ (size ≤ 8) × ((size ≡ 1 → ⊥) → size % 2 ≡ 0) ⌝ }
     requires { ⌜ (2 ^ size ≤ length (now row)) × (2 ^ size ≤ length (now spare)) ⌝ }
     requires { ⌜ (first + size ≤ 64) × Seated (now levels) (now index) first size ⌝ }
@@ -102,7 +122,15 @@ fn fill_row(row: &mut [u64], spare: &mut [u64], levels: &[i32], index: &[usize; 
 }
 
 // The row of a group at its place in a packed row.
-fn fill_at(packed: &mut [u64], at: usize, spare: &mut [u64], levels: &[i32], index: &[usize; 64], first: usize, size: usize)
+fn fill_at(
+    packed: &mut [u64],
+    at: usize,
+    spare: &mut [u64],
+    levels: &[i32],
+    index: &[usize; 64],
+    first: usize,
+    size: usize,
+)
     requires { ⌜ (size ≤ 8) × (((size ≡ 1 → ⊥) → size % 2 ≡ 0)) ⌝ }
     requires { ⌜ (at + 2 ^ size ≤ length (now packed)) × (2 ^ size ≤ length (now spare)) ⌝ }
     requires { ⌜ (first + size ≤ 64) × Seated (now levels) (now index) first size ⌝ }
@@ -112,7 +140,12 @@ fn fill_at(packed: &mut [u64], at: usize, spare: &mut [u64], levels: &[i32], ind
 }
 
 // The rows of all groups, one after the other.
-pub(crate) fn rows(levels: &[i32], index: &[usize; 64], groups: usize, size: usize) -> [[u64; 256]; 8]
+pub(crate) fn rows(
+    levels: &[i32],
+    index: &[usize; 64],
+    groups: usize,
+    size: usize,
+) -> [[u64; 256]; 8]
     requires { ⌜ GroupSize size × (groups * size ≤ 64) × Seated (now levels) (now index) 0 (groups * size) ⌝ }
     ensures { λ r. ⌜ RowsRight (now (levels .entry)) (now (index .entry)) groups size r ⌝ }
 {
@@ -121,9 +154,18 @@ pub(crate) fn rows(levels: &[i32], index: &[usize; 64], groups: usize, size: usi
     let entries: usize = 1 << size;
     let mut k = 0;
     while k < groups {
-        let row = k * entries / 256;
-        let at = k * entries % 256;
-        fill_at(&mut table[row], at, &mut spare, levels, index, k * size, size);
+        let start = k * entries;
+        let row = start / 256;
+        let at = start % 256;
+        fill_at(
+            &mut table[row],
+            at,
+            &mut spare,
+            levels,
+            index,
+            k * size,
+            size,
+        );
         k += 1;
     }
     table

@@ -13,11 +13,6 @@ use Rattle.tree.proofs.Building.{entry-small}
 use borrow.Author.Needs.{needs, sfits-of}
 use Rattle.tree.proofs.row.add_slot.Statement.{statement}
 use Rattle.tree.proofs.row.add_slot.Tie as tie
-use Rattle.tree.proofs.row.add_slot.Reads as reads
-use Rattle.tree.proofs.row.add_slot.Lts as lts
-use Rattle.tree.proofs.cost.slot_costs.Reads as slot-costs-reads
-use Rattle.tree.proofs.row.double.Reads as double-reads
-use Rattle.tree.proofs.row.seat_level.Reads as seat-level-reads
 
 shl-m : tie.Need-shl-m
 shl-m c = search needs

@@ -14,9 +14,6 @@ use Rattle.tree.specs.Tables.{seatCost}
 use Rattle.tree.proofs.Building.{seats-fewer, built-none, built-take, built-length, built-more}
 use Rattle.tree.proofs.row.fill_row.Statement.{statement}
 use Rattle.tree.proofs.row.fill_row.Tie as tie
-use Rattle.tree.proofs.row.fill_row.Reads as reads
-use Rattle.tree.proofs.row.fill_row.Lts as lts
-use Rattle.tree.proofs.row.add_slot.Reads as add-slot-reads
 
 abbrev Inv-loop : tie.InvT-loop
 Inv-loop row₀ spare₀ levels index first size t₀ row spare t =
@@ -32,8 +29,7 @@ add-slot-requires : tie.Need-add-slot-requires Inv-loop μ-loop
 add-slot-requires c κs =
     let s = c .before .before .before .before .before in
     let one : 2 ^ (s .args .size) ≡ 2 ^ 1 = ap (λ (n : ℕ). 2 ^ n) (c .before .before .if1 .taken) in
-    let long = length-set (s .args .spare .now) 0 0 in
-    (
+    let long = length-set (s .args .spare .now) 0 0 in (
       (omega arith, omega (arith, c .before .before .if1 .taken), seats-fewer 1 (omega (arith, c .before .before .if1 .taken)) (s .pre .1 .1 .1)),
       (
         (omega (arith, s .pre .1 .0 .1), omega (arith, s .pre .1 .0 .0)),
@@ -54,7 +50,7 @@ slice-write-row : tie.Need-slice-write-row Inv-loop μ-loop
 slice-write-row c = omega (arith, pow-pos (c .before .before .before .args .size), c .before .before .before .pre .1 .0 .0)
 
 loop-holds : tie.Need-loop-holds Inv-loop μ-loop
-loop-holds c = 
+loop-holds c =
     let s = c .before .before .before in
     (omega arith, refl, refl, built-none _ (s .args .row .now) (omega (arith, pow-pos (s .args .size), s .pre .1 .0 .0)))
 
@@ -65,8 +61,7 @@ add-slot-requires-2 c κs =
     let less = c .before .before .loop-test .taken in
     let room = pow-mono less in
     let now = pow-mono (le-of-lt less) in
-    let long = length-set (s .args .row .now) 0 0 in
-    (
+    let long = length-set (s .args .row .now) 0 0 in (
       (omega arith, omega arith, seats-fewer (suc (l .loop .t)) less (s .pre .1 .1 .1)),
       (
         (omega (arith, built-length _ (l .loop .t) _ (l .loop .inv .3) (omega (arith, s .pre .1 .0 .0)), s .pre .1 .0 .0), omega (arith, l .loop .inv .2, s .pre .1 .0 .1)),
@@ -90,8 +85,7 @@ add-slot-requires-3 c κs =
     let long = length-set (s .args .row .now) 0 0 in
     let step = c .before .before .before .before .add-slot2 .ensures in
     let spare-long = built-length _ (suc (l .loop .t)) _ step (omega (arith, l .loop .inv .2, s .pre .1 .0 .1)) in
-    let row-long = built-length _ (l .loop .t) _ (l .loop .inv .3) (omega (arith, s .pre .1 .0 .0)) in
-    (
+    let row-long = built-length _ (l .loop .t) _ (l .loop .inv .3) (omega (arith, s .pre .1 .0 .0)) in (
       (omega arith, omega arith, seats-fewer (suc (l .loop .t + 1)) next (s .pre .1 .1 .1)),
       (
         (rw (add-one (l .loop .t)) (omega (arith, spare-long, l .loop .inv .2, s .pre .1 .0 .1)), omega (arith, row-long, s .pre .1 .0 .0)),
@@ -113,8 +107,7 @@ loop-again c =
     let room = pow-mono (c .before .before .before .before .before .before .before .before .before .before .loop-test .taken) in
     let next : l .loop .t + 2 ≡ suc (l .loop .t + 1) = omega arith in
     let now : 2 ^ (l .loop .t) ≤ 2 ^ (s .args .size) = pow-mono (omega arith) in
-    let long = length-set (s .args .row .now) 0 0 in
-    (
+    let long = length-set (s .args .row .now) 0 0 in (
       omega (arith, even),
       omega arith,
       built-length _ (suc (l .loop .t)) _ (c .before .before .before .before .before .before .before .add-slot2 .ensures) (omega (arith, room, l .loop .inv .2, s .pre .1 .0 .1)) ∙ l .loop .inv .2,
