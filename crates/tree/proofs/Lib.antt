@@ -5,3 +5,8 @@ pub mod Packing
 pub mod Rows
 pub mod Steps
 pub mod Trying
+pub mod Costs
+pub mod BothEnds
+pub mod Doubling
+pub mod Building
+pub mod Places

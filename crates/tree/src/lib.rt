@@ -1,4 +1,6 @@
 // Decoding by the folded tree.
+mod cost;
+mod row;
 mod seat;
 mod state;
 mod walk;
