@@ -5,7 +5,7 @@ use mathlib.Core.Path.{_≡_, refl, sym, ap, _∙_}
 use mathlib.Core.Logic.{_⊎_, inl, inr, ⊎-elim, _≢_}
 use mathlib.Core.Bool.{Bool, true, false, cond}
 use mathlib.Core.List.{List, [], _∷_, _++_, map, List·Memᴰ, List·Memᴰ·head, List·Memᴰ·tail, List·Memᴰ·not-nil, List·Memᴰ·cases-cons, List·Memᴰ·eq-of-singleton}
-use native.Mathlib.Nat.{add-zero, one-mul, two-pow-succ}
+use native.Mathlib.Nat.{le-refl, add-zero, one-mul, two-pow-succ}
 use native.Mathlib.Decide.{decLt}
 use native.Mathlib.Omega.{arith}
 use lib.Dec.{ltb}
@@ -276,3 +276,9 @@ module _ (cost : ℕ → ℕ → ℕ) where
       let r = row-at t e m in
       let small : 2 ^ t ≤ 2 ^ 8 = pow-mono s in
       omega (arith, r .1, r .2, sum-le t {f = λ i. cost i (bit (r .0) i)} {g = λ i. c} (λ i l. h i (bit (r .0) i) l), sum-const t c)
+
+-- a row depends on the costs of its own slots alone
+pub row-cong : (a b : ℕ → ℕ → ℕ) (t : ℕ) → ((i v : ℕ) → i < t → a i v ≡ b i v) → rowOf a t ≡ rowOf b t
+unfolding rowOf
+row-cong a b zero h = refl
+row-cong a b (suc t) h = rw (h t 0 (le-refl _), h t 1 (le-refl _), row-cong a b t (λ i v l. h i v (omega arith)))

@@ -10,3 +10,4 @@ pub mod BothEnds
 pub mod Doubling
 pub mod Building
 pub mod Places
+pub mod Searching
