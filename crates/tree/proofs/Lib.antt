@@ -5,3 +5,4 @@ pub mod Packing
 pub mod Rows
 pub mod Steps
 pub mod Trying
+pub mod Emptiness

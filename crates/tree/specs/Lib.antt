@@ -2,3 +2,4 @@ pub mod Seating
 pub mod Tables
 pub mod States
 pub mod Nodes
+pub mod Empty

@@ -1,4 +1,5 @@
 // Decoding by the folded tree.
+mod empty;
 mod seat;
 mod state;
 mod walk;
