@@ -43,3 +43,4 @@ pub mod SeatedRow
 pub mod SeatedDown
 pub mod SeatedFillings
 pub mod SeatedWalk
+pub mod FillingNumber

@@ -37,7 +37,8 @@ pattern-is n d u (i ∷ is) l h =
     = pattern-is n d (u / 2) is (omega (arith, two-pow-succ (length is))) (λ t m. h (suc t) (omega arith) ∙ ap (bit u) (sym (one-add t)) ∙ sym (bit-div u 1 t)) in
     omega (arith, h 0 (omega arith))
 
-sum-first : (m : ℕ) (f : ℕ → ℕ) → sumBelow (suc m) f ≡ f 0 + sumBelow m (λ i. f (suc i))
+-- a sum with its first number apart
+pub sum-first : (m : ℕ) (f : ℕ → ℕ) → sumBelow (suc m) f ≡ f 0 + sumBelow m (λ i. f (suc i))
 unfolding sumBelow
 sum-first zero f = omega arith
 sum-first (suc m) f = omega (arith, sum-first m f)

@@ -11,3 +11,4 @@ pub mod Doubling
 pub mod Building
 pub mod Places
 pub mod Searching
+pub mod Emptiness

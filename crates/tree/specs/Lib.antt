@@ -1,6 +1,7 @@
 pub mod Seating
 pub mod Tables
 pub mod Costs
+pub mod Empty
 pub mod States
 pub mod Nodes
 pub mod Search

@@ -1,5 +1,6 @@
 // Decoding by the folded tree.
 mod cost;
+mod empty;
 mod row;
 mod seat;
 mod state;
