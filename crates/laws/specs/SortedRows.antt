@@ -19,7 +19,7 @@ use Rattle.laws.specs.Sums.{sum-cong, sum-le, sum-const}
 use Rattle.laws.specs.Bits.{bit-beyond, bit-low, bit-high}
 use Rattle.laws.specs.SortedLists.{Rising, mem-map-at, mem-map-of, rising-map}
 
--- x and a list before it merged with ys, where `rest` merges what follows x
+-- x and the list after it merged with ys, where `rest` merges the list after x
 unfoldable pub mergeFrom : ℕ → (List ℕ → List ℕ) → List ℕ → List ℕ
 mergeFrom x rest [] = x ∷ rest []
 mergeFrom x rest (y ∷ ys) = cond (ltb x y) (x ∷ rest (y ∷ ys)) (y ∷ mergeFrom x rest ys)
@@ -31,12 +31,12 @@ merge [] ys = ys
 merge (x ∷ xs) ys = mergeFrom x (merge xs) ys
 
 -- the first list's head goes
-pub merge-first : (x y : ℕ) (xs ys : List ℕ) → x < y → merge (x ∷ xs) (y ∷ ys) ≡ x ∷ merge xs (y ∷ ys)
+merge-first : (x y : ℕ) (xs ys : List ℕ) → x < y → merge (x ∷ xs) (y ∷ ys) ≡ x ∷ merge xs (y ∷ ys)
 unfolding merge
 merge-first x y xs ys h = rw (lt-ltb x y h)
 
 -- the second list's head goes
-pub merge-second : (x y : ℕ) (xs ys : List ℕ) → y ≤ x → merge (x ∷ xs) (y ∷ ys) ≡ y ∷ merge (x ∷ xs) ys
+merge-second : (x y : ℕ) (xs ys : List ℕ) → y ≤ x → merge (x ∷ xs) (y ∷ ys) ≡ y ∷ merge (x ∷ xs) ys
 unfolding merge
 merge-second x y xs ys h = rw (le-ltb x y h)
 
@@ -56,7 +56,7 @@ module _ (P : List ℕ → List ℕ → List ℕ → Type 0)
       go true e h = first x y xs ys (ltb-true x y e) (rest (y ∷ ys))
       go false e h = second x y xs ys (ltb-false x y e) h
 
-  pub merge-ind : (xs ys : List ℕ) → P xs ys (merge xs ys)
+  merge-ind : (xs ys : List ℕ) → P xs ys (merge xs ys)
   unfolding merge
   merge-ind [] ys = none ys
   merge-ind (x ∷ xs) ys = from-ind x xs (merge-ind xs) ys
@@ -68,7 +68,7 @@ merge-length =
     (λ x y xs ys l h. omega arith)
 
 -- a member of a merged list is a member of one of both
-pub merge-at : (z : ℕ) (xs ys : List ℕ) → List·Memᴰ z (merge xs ys) → List·Memᴰ z xs ⊎ List·Memᴰ z ys
+merge-at : (z : ℕ) (xs ys : List ℕ) → List·Memᴰ z (merge xs ys) → List·Memᴰ z xs ⊎ List·Memᴰ z ys
 merge-at z =
     merge-ind (λ xs ys r. List·Memᴰ z r → List·Memᴰ z xs ⊎ List·Memᴰ z ys) (λ ys m. inr m) (λ x xs. by-first x xs [] _)
     (λ x y xs ys l. by-first x xs (y ∷ ys) _)
@@ -88,21 +88,21 @@ keeps : {z x : ℕ} {xs r : List ℕ} → (List·Memᴰ z xs → List·Memᴰ z 
 keeps h m = ⊎-elim (λ e. List·Memᴰ·head e) (λ i. List·Memᴰ·tail (h i)) (List·Memᴰ·cases-cons m)
 
 -- a member of the first list is a member of the merged one
-pub merge-of-first : (z : ℕ) (xs ys : List ℕ) → List·Memᴰ z xs → List·Memᴰ z (merge xs ys)
+merge-of-first : (z : ℕ) (xs ys : List ℕ) → List·Memᴰ z xs → List·Memᴰ z (merge xs ys)
 merge-of-first z =
     merge-ind (λ xs ys r. List·Memᴰ z xs → List·Memᴰ z r) (λ ys m. absurd (List·Memᴰ·not-nil m)) (λ x xs h. keeps h)
     (λ x y xs ys l h. keeps h)
     (λ x y xs ys l h m. List·Memᴰ·tail (h m))
 
 -- and so is a member of the second
-pub merge-of-second : (z : ℕ) (xs ys : List ℕ) → List·Memᴰ z ys → List·Memᴰ z (merge xs ys)
+merge-of-second : (z : ℕ) (xs ys : List ℕ) → List·Memᴰ z ys → List·Memᴰ z (merge xs ys)
 merge-of-second z =
     merge-ind (λ xs ys r. List·Memᴰ z ys → List·Memᴰ z r) (λ ys m. m) (λ x xs h m. List·Memᴰ·tail (h m))
     (λ x y xs ys l h m. List·Memᴰ·tail (h m))
     (λ x y xs ys l h. keeps h)
 
 -- rising lists with no member in common make a rising list
-pub merge-rising : (xs ys : List ℕ) → Rising _<_ xs → Rising _<_ ys → ((x y : ℕ) → List·Memᴰ x xs → List·Memᴰ y ys → x ≢ y)
+merge-rising : (xs ys : List ℕ) → Rising _<_ xs → Rising _<_ ys → ((x y : ℕ) → List·Memᴰ x xs → List·Memᴰ y ys → x ≢ y)
     → Rising _<_ (merge xs ys)
 unfolding Rising
 merge-rising =
@@ -113,16 +113,18 @@ merge-rising =
       h (p .1) tt (λ a b i j. n a b (List·Memᴰ·tail i) j),
     ))
     (λ x y xs ys l h p q n. (
-      λ b m. ⊎-elim (λ i. p .0 b i) (λ i. ⊎-elim (λ (e : b ≡ y). omega arith) (λ j. omega (arith, q .0 b j)) (List·Memᴰ·cases-cons i)) (merge-at b xs (y ∷ ys) m),
+      λ b m. ⊎-elim (λ i. p .0 b i) (λ i. ⊎-elim (λ (e : b ≡ y). omega arith) (λ j. omega (arith, q .0 b j)) (List·Memᴰ·cases-cons i))
+          (merge-at b xs (y ∷ ys) m),
       h (p .1) q (λ a b i j. n a b (List·Memᴰ·tail i) j),
     ))
     (λ x y xs ys l h p q n. let apart = n x y (List·Memᴰ·head refl) (List·Memᴰ·head refl) in (
-      λ b m. ⊎-elim (λ i. ⊎-elim (λ (e : b ≡ x). omega arith) (λ j. omega (arith, p .0 b j)) (List·Memᴰ·cases-cons i)) (λ i. q .0 b i) (merge-at b (x ∷ xs) ys m),
+      λ b m. ⊎-elim (λ i. ⊎-elim (λ (e : b ≡ x). omega arith) (λ j. omega (arith, p .0 b j)) (List·Memᴰ·cases-cons i)) (λ i. q .0 b i)
+          (merge-at b (x ∷ xs) ys m),
       h p (q .1) (λ a b i j. n a b i (List·Memᴰ·tail j)),
     ))
 
 -- a number above the first list, and last in the second, comes last
-pub merge-last-second : (y : ℕ) (xs ys : List ℕ) → ((i : ℕ) → i < length xs → getD xs i 0 < y)
+merge-last-second : (y : ℕ) (xs ys : List ℕ) → ((i : ℕ) → i < length xs → getD xs i 0 < y)
     → merge xs (ys ++ y ∷ []) ≡ merge xs ys ++ y ∷ []
 unfolding merge
 merge-last-second y =
@@ -132,7 +134,7 @@ merge-last-second y =
     (λ x z xs ys l r h. rw (le-ltb x z l) (ap (λ (s : List ℕ). z ∷ s) (r h)))
 
 -- a number not below the second list, and last in the first, comes last
-pub merge-last-first : (x : ℕ) (xs ys : List ℕ) → ((i : ℕ) → i < length ys → getD ys i 0 ≤ x)
+merge-last-first : (x : ℕ) (xs ys : List ℕ) → ((i : ℕ) → i < length ys → getD ys i 0 ≤ x)
     → merge (xs ++ x ∷ []) ys ≡ merge xs ys ++ x ∷ []
 unfolding merge
 merge-last-first x =
@@ -159,12 +161,14 @@ module _ (xs ys : List ℕ) (a b : ℕ) where
   -- of the first parts of both lists, the first one's end comes last
   pub merge-back-first : a < length xs → ((i : ℕ) → i < b → getD ys i 0 ≤ getD xs a 0)
       → merge (take (suc a) xs) (take b ys) ≡ merge (take a xs) (take b ys) ++ getD xs a 0 ∷ []
-  merge-back-first la h = rw (take-suc xs a 0 la) (merge-last-first _ _ _ (λ i l. let k : i < b = omega (arith, length-take b ys) in rw (getD-take b ys i 0 k) (h i k)))
+  merge-back-first la h =
+      rw (take-suc xs a 0 la) (merge-last-first _ _ _ (λ i l. let k : i < b = omega (arith, length-take b ys) in rw (getD-take b ys i 0 k) (h i k)))
 
   -- or the second one's
   pub merge-back-second : b < length ys → ((i : ℕ) → i < a → getD xs i 0 < getD ys b 0)
       → merge (take a xs) (take (suc b) ys) ≡ merge (take a xs) (take b ys) ++ getD ys b 0 ∷ []
-  merge-back-second lb h = rw (take-suc ys b 0 lb) (merge-last-second _ _ _ (λ i l. let k : i < a = omega (arith, length-take a xs) in rw (getD-take a xs i 0 k) (h i k)))
+  merge-back-second lb h =
+      rw (take-suc ys b 0 lb) (merge-last-second _ _ _ (λ i l. let k : i < a = omega (arith, length-take a xs) in rw (getD-take a xs i 0 k) (h i k)))
 
 -- a row with one slot more: a is what bit 0 adds to an entry, b what bit 1 adds
 abbrev pub doubled : ℕ → ℕ → List ℕ → List ℕ
@@ -235,7 +239,8 @@ module _ (cost : ℕ → ℕ → ℕ) where
   row-of zero u l = List·Memᴰ·head (entry-none u l)
   row-of (suc t) u l = go (decLt u (2 ^ t)) (row-of t)
     where
-      go : Dec (u < 2 ^ t) → ((v : ℕ) → v < 2 ^ t → List·Memᴰ (entryOf cost t v) (rowOf cost t)) → List·Memᴰ (entryOf cost (suc t) u) (rowOf cost (suc t))
+      go : Dec (u < 2 ^ t) → ((v : ℕ) → v < 2 ^ t → List·Memᴰ (entryOf cost t v) (rowOf cost t))
+          → List·Memᴰ (entryOf cost (suc t) u) (rowOf cost (suc t))
       go (yes k) h = rw (entry-zero t u k) (merge-of-first _ _ _ (mem-map-of (λ x. x + cost t 0 * 256) (rowOf cost t) _ (h u k)))
       go (no k) h =
           let v : u - 2 ^ t < 2 ^ t = omega (arith, two-pow-succ t) in

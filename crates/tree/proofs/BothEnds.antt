@@ -57,7 +57,8 @@ module _ {new old to : List ℕ} {i k : ℕ} (room : length new ≤ length old) 
           e .beyond j (omega arith) ∙ sym (rw at at (getD-append-add new rest (j - length new) 0 ∙ getD-drop (length new) old (j - length new) 0))
 
 -- one more at the back
-pub ends-back : {new old to : List ℕ} {i k : ℕ} → length new ≤ length old → BothEnds new old to i (suc k) → k < length new → BothEnds new old (set to k (getD new k 0)) i k
+pub ends-back : {new old to : List ℕ} {i k : ℕ} → length new ≤ length old → BothEnds new old to i (suc k) → k < length new
+    → BothEnds new old (set to k (getD new k 0)) i k
 ends-back {to = to} {k = k} room e l = record {
   long = length-set to k _ ∙ e .long;
   front = λ j h. stored room e k j l (λ n. e .front j h);

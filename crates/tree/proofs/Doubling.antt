@@ -150,7 +150,8 @@ module _ (from : List ℕ) (m x y : ℕ) (old : List ℕ) (whole : m ≤ length 
     ends = rw (← twice) (ends-none _ old);
   }
 
-  pub merging-all : {to : List ℕ} {a b c d : ℕ} → Merging from m x y old to a b c d → m ≤ a + b → to ≡ doubled x y (take m from) ++ drop (m + m) old
+  pub merging-all : {to : List ℕ} {a b c d : ℕ} → Merging from m x y old to a b c d → m ≤ a + b
+      → to ≡ doubled x y (take m from) ++ drop (m + m) old
   merging-all s l = rw twice at (ends-all (rw twice room) (s .ends) (omega (arith, s .all)))
 
   -- a turn: t says that the first half's head goes to the front, u that the second half's end goes to the back
@@ -175,7 +176,8 @@ module _ (from : List ℕ) (m x y : ℕ) (old : List ℕ) (whole : m ≤ length 
         all = omega arith;
         front = f .0;
         back = g .0;
-        ends = rw (at-front, at-back) (both (f .1 ∙ rw (same a (omega arith), same b (omega arith)) (sym ev)) (g .1 ∙ rw (same (c - 1) (omega arith), same (d - 1) (omega arith)) (sym ew)));
+        ends = rw (at-front, at-back)
+            (both (f .1 ∙ rw (same a (omega arith), same b (omega arith)) (sym ev)) (g .1 ∙ rw (same (c - 1) (omega arith), same (d - 1) (omega arith)) (sym ew)));
       }
     where
       row : List ℕ

@@ -12,3 +12,5 @@ pub mod Building
 pub mod Places
 pub mod Searching
 pub mod Emptiness
+pub mod Found
+pub mod Checks

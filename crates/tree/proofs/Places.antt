@@ -1,51 +1,41 @@
 -- Where a group's row stands in the table: group sizes, places that fit and do not overlap, and the table with one row more.
-use Prim.Native.Nat.{ℕ, zero, suc, _+_, _*_, _-_, _/_, _%_, _^_, _≤_, _<_}
-use mathlib.Core.Path.{_≡_, refl, sym, ap, _∙_}
+use Prim.Native.Nat.{ℕ, suc, _+_, _*_, _/_, _%_, _^_, _≤_, _<_}
+use mathlib.Core.Path.{_≡_, refl, ap, _∙_}
 use mathlib.Core.List.{List, [], _++_}
 use native.Mathlib.Nat.{zero-add, not-suc-le-zero}
-use native.Mathlib.Decide.{ℕ-discrete, decLt}
+use native.Mathlib.Decide.{ℕ-discrete}
 use native.Mathlib.Omega.{arith}
 use lib.IntN.{ℤ}
-use lib.ListN.{length, getD, take, drop, set, replicate, length-set, length-append, length-replicate, getD-replicate, length-take, length-drop, List·getD-append}
+use lib.ListN.{length, getD, take, drop, set, replicate, length-set, length-append, getD-replicate, length-drop, List·getD-append}
 use lib.Seq.{getD-set-same, getD-set-other, getD-append-add, getD-take, length-take-le}
 use Rattle.laws.specs.SortedRows.{rowOf, row-length}
+use Rattle.word.proofs.Shifts.{one-shifted}
+use Rattle.tree.proofs.Building.{by-size, size-small}
 use Rattle.tree.specs.Costs.{GroupSize, Levelled, seatCost, RowsRight}
-
--- what holds at 1, 2, 4 and 8 holds at every group size
-by-size : (P : ℕ → Type 0) → P 1 → P 2 → P 4 → P 8 → (size : ℕ) → GroupSize size → P size
-by-size P one two four eight size g = rw (g .2) (go (g .0) (g .1))
-  where
-    go : (f : ℕ) → f ≤ 3 → P (2 ^ f)
-    go zero l = one
-    go (suc zero) l = two
-    go (suc (suc zero)) l = four
-    go (suc (suc (suc zero))) l = eight
-    go (suc (suc (suc (suc f)))) l = absurd (omega arith)
-
-pub size-small : (size : ℕ) → GroupSize size → size ≤ 8
-size-small = by-size (λ (size : ℕ). size ≤ 8) (omega arith) (omega arith) (omega arith) (omega arith)
 
 -- the place of group k among groups of a size
 pub record Place (size groups k : ℕ) : Type 0 where
-  pub even : (size ≡ 1 → ⊥) → size % 2 ≡ 0
   pub start : k * 2 ^ size < 4096
   pub inside : k * 2 ^ size / 256 < 8
   pub fits : k * 2 ^ size % 256 + 2 ^ size ≤ 256
   pub apart : (i : ℕ) → i < k → i * 2 ^ size / 256 ≡ k * 2 ^ size / 256 → i * 2 ^ size % 256 + 2 ^ size ≤ k * 2 ^ size % 256
   pub seats : k * size + size ≤ groups * size
 
-pub place : (groups k : ℕ) → k < groups → (size : ℕ) → GroupSize size → groups * size ≤ 64 → Place size groups k
-place groups k l =
-    by-size (λ (size : ℕ). groups * size ≤ 64 → Place size groups k)
-    (λ h. omega arith)
-    (λ h. omega arith)
-    (λ h. omega arith)
-    (λ h. omega arith)
+pub place : {levels : List ℤ} {index : List ℕ} {size groups k : ℕ} → GroupSize size × Levelled levels index 0 (groups * size) → k < groups
+    → Place size groups k
+place {groups = groups} {k = k} g l =
+    by-size (λ (size : ℕ). groups * size ≤ 64 → Place size groups k) (λ h. omega arith) (λ h. omega arith) (λ h. omega arith) (λ h. omega arith) (g .0)
+    (omega (arith, g .1 .within))
+
+-- the machine's number of entries in a row
+pub row-entries : {size : ℕ} → GroupSize size → 1 * 2 ^ size % 2 ^ 64 ≡ 2 ^ size
+row-entries {size} g = one-shifted size (omega (arith, size-small g))
 
 -- the seats of group k, among those of all groups
 pub group-seats : {levels : List ℤ} {index : List ℕ} {count : ℕ} (first size : ℕ) → first + size ≤ count → Levelled levels index 0 count
     → Levelled levels index first size
 group-seats first size l h = record {
+  within = omega (arith, h .within);
   held = λ t b. rw (zero-add (first + t)) at (h .held (first + t) (omega arith));
   ranged = λ t b. rw (zero-add (first + t)) at (h .ranged (first + t) (omega arith));
 }
@@ -115,7 +105,8 @@ module _ {levels : List ℤ} {index : List ℕ} {groups size k : ℕ} {table : L
   right-more i j l b (yes e) s = rw (e, here) (put-in (getD table o []) row at (2 ^ size) (row-length _ size) fits j b)
   right-more i j l b (no n) (yes s) =
       let less : i < k = omega arith in
-      rw (s, here) (put-before (getD table o []) row at (2 ^ size) (row-length _ size) fits (i * 2 ^ size % 256 + j) (omega (arith, p .apart i less s)) ∙ rw s at (f .right i j less b))
+      rw (s, here)
+      (put-before (getD table o []) row at (2 ^ size) (row-length _ size) fits (i * 2 ^ size % 256 + j) (omega (arith, p .apart i less s)) ∙ rw s at (f .right i j less b))
   right-more i j l b (no n) (no s) = rw (elsewhere (i * 2 ^ size / 256) s) (f .right i j (omega arith) b)
 
   -- one row more, put at its place

@@ -41,7 +41,7 @@ member (x ∷ l) (suc i) h = List·Memᴰ·tail (member l i (le-of-suc-le-suc h)
 module _ {n : ℕ} {levels : List ℤ} {folding : ℕ} (given : Searchable n levels folding) {index : List ℕ} (seated : Seated index n folding)
     (size many : ℕ) (sized : size ≡ 2 ^ ones folding) (counted : many ≡ length levels / size) where
   -- the groups are those of the folding
-  groups-are : many ≡ groups n folding
+  pub groups-are : many ≡ groups n folding
   groups-are = counted ∙ ap₂ (λ (a b : ℕ). a / b) (given .long) sized
 
   -- and hold every slot
@@ -52,6 +52,7 @@ module _ {n : ℕ} {levels : List ℤ} {folding : ℕ} (given : Searchable n lev
   pub levelled : Levelled levels index 0 (many * size)
   levelled =
       record {
+        within = omega (arith, all-slots, pow-mono {j = 6} (given .small));
         held = λ t h. rw (zero-add t, index-at seated t (rw all-slots at h), given .long) (seat-below n folding (given .fits) t (rw all-slots at h));
         ranged = λ t h. rw (zero-add t, index-at seated t (rw all-slots at h)) (given .ranged _ (seat-below n folding (given .fits) t (rw all-slots at h)))
       }

@@ -28,12 +28,17 @@ GroupSize size = (f : ℕ) × (f ≤ 3) × (size ≡ 2 ^ f)
 abbrev pub seatCost : List ℤ → List ℕ → ℕ → ℕ → ℕ → ℕ
 seatCost levels index first t b = slotCost (levelAt levels (getD index (first + t) 0)) b
 
--- count seats from the first one on have an index with a level, and that level is in range
+-- the row of the first t slots of that group
+abbrev pub seatRow : List ℤ → List ℕ → ℕ → ℕ → List ℕ
+seatRow levels index first t = rowOf (seatCost levels index first) t
+
+-- count seats from the first one on: each has an index with a level, and that level is in range
 pub record Levelled (levels : List ℤ) (index : List ℕ) (first count : ℕ) : Type 0 where
+  pub within : first + count ≤ 64
   pub held : (t : ℕ) → t < count → getD index (first + t) 0 < length levels
   pub ranged : (t : ℕ) → t < count → inRange (levelAt levels (getD index (first + t) 0)) ≡ true
 
 -- the table's row of each group is the sorted row of its costs
 unfoldable pub RowsRight : List ℤ → List ℕ → ℕ → ℕ → List (List ℕ) → Type 0
 RowsRight levels index groups size table =
-    (k j : ℕ) → k < groups → j < 2 ^ size → entryAt table size k j ≡ getD (rowOf (seatCost levels index (k * size)) size) j 0
+    (k j : ℕ) → k < groups → j < 2 ^ size → entryAt table size k j ≡ getD (seatRow levels index (k * size) size) j 0

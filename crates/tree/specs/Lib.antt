@@ -4,4 +4,5 @@ pub mod Costs
 pub mod Empty
 pub mod States
 pub mod Nodes
+pub mod Reading
 pub mod Search

@@ -1,15 +1,15 @@
 // Sorted rows: for each group its patterns with their branch distances, in order, whole.
 // An entry is the distance times 256 plus the pattern, so that the order of numbers is the order of candidates.
 ghost use mathlib.Core.Path.{_≡_};
-ghost use mathlib.Core.Bool.{true, cond};
+ghost use mathlib.Core.Bool.{cond};
 ghost use mathlib.Core.List.{_++_};
-ghost use Prim.Native.Nat.{ℕ, suc, _+_, _*_, _%_, _^_, _<_, _≤_, min, max};
+ghost use Prim.Native.Nat.{ℕ, suc, _+_, _*_, _^_, _<_, _≤_, min, max};
 ghost use lib.Dec.{ltb};
 ghost use lib.ListN.{length, getD, take, drop};
-ghost use Rattle.rules.specs.Level.{inRange, levelAt, slotCost};
+ghost use Rattle.rules.specs.Level.{levelAt};
 ghost use Rattle.laws.specs.SortedLists.{Rising};
-ghost use Rattle.laws.specs.SortedRows.{doubled, rowOf};
-ghost use Rattle.tree.specs.Costs.{seatCost, GroupSize, Levelled, RowsRight};
+ghost use Rattle.laws.specs.SortedRows.{doubled};
+ghost use Rattle.tree.specs.Costs.{seatRow, GroupSize, Levelled, RowsRight};
 use crate::cost::slot_costs;
 
 fn least(x: u64, y: u64) -> u64
@@ -32,7 +32,8 @@ fn less(x: u64, y: u64) -> usize
 }
 
 // The row of one slot more: the first m entries once with `zero` and once with `one` added, merged.
-// It is filled from both ends at once, which no branch decides; each end has m entries left in both lists when it starts.
+// It is filled from both ends at once, m entries from each, so that neither half runs out and no branch goes by the data:
+// of the two halves a and b entries went to the front, and c and d are left before those that went to the back.
 fn double(from: &[u64], to: &mut [u64], m: usize, zero: u64, one: u64)
     requires { ⌜ (m ≤ length (now from)) × (m + m ≤ length (now to)) ⌝ }
     requires { ⌜ Rising _<_ (take m (now from)) ⌝ }
@@ -77,10 +78,10 @@ fn add_slot(
     index: &[usize; 64],
     first: usize,
 )
-    requires { ⌜ (t < 8) × (first + t < 64) × Levelled (now levels) (now index) first (suc t) ⌝ }
+    requires { ⌜ (t < 8) × Levelled (now levels) (now index) first (suc t) ⌝ }
     requires { ⌜ (2 ^ t ≤ length (now from)) × (2 ^ suc t ≤ length (now to)) ⌝ }
-    requires { ⌜ take (2 ^ t) (now from) ≡ rowOf (seatCost (now levels) (now index) first) t ⌝ }
-    ensures { λ _. ⌜ now (to .exit) ≡ rowOf (seatCost (now (levels .entry)) (now (index .entry)) first) (suc t) ++ drop (2 ^ suc t) (now (to .entry)) ⌝ }
+    requires { ⌜ take (2 ^ t) (now from) ≡ seatRow (now levels) (now index) first t ⌝ }
+    ensures { λ _. ⌜ now (to .exit) ≡ seatRow (now (levels .entry)) (now (index .entry)) first (suc t) ++ drop (2 ^ suc t) (now (to .entry)) ⌝ }
 {
     let m: usize = 1 << t;
     let costs = slot_costs(seat_level(levels, index, first + t));
@@ -93,7 +94,7 @@ fn add_slot(
     );
 }
 
-// The row of the group whose first seat is given, of 1 slot or of an even number, two a turn.
+// The row of the group whose first seat is given. Two slots a turn: from the row to the spare one and back.
 fn fill_row(
     row: &mut [u64],
     spare: &mut [u64],
@@ -102,10 +103,9 @@ fn fill_row(
     first: usize,
     size: usize,
 )
-    requires { ⌜ (size ≤ 8) × ((size ≡ 1 → ⊥) → size % 2 ≡ 0) ⌝ }
+    requires { ⌜ GroupSize size × Levelled (now levels) (now index) first size ⌝ }
     requires { ⌜ (2 ^ size ≤ length (now row)) × (2 ^ size ≤ length (now spare)) ⌝ }
-    requires { ⌜ (first + size ≤ 64) × Levelled (now levels) (now index) first size ⌝ }
-    ensures { λ _. ⌜ now (row .exit) ≡ rowOf (seatCost (now (levels .entry)) (now (index .entry)) first) size ++ drop (2 ^ size) (now (row .entry)) ⌝ }
+    ensures { λ _. ⌜ now (row .exit) ≡ seatRow (now (levels .entry)) (now (index .entry)) first size ++ drop (2 ^ size) (now (row .entry)) ⌝ }
 {
     if size == 1 {
         spare[0] = 0;
@@ -131,10 +131,9 @@ fn fill_at(
     first: usize,
     size: usize,
 )
-    requires { ⌜ (size ≤ 8) × (((size ≡ 1 → ⊥) → size % 2 ≡ 0)) ⌝ }
+    requires { ⌜ GroupSize size × Levelled (now levels) (now index) first size ⌝ }
     requires { ⌜ (at + 2 ^ size ≤ length (now packed)) × (2 ^ size ≤ length (now spare)) ⌝ }
-    requires { ⌜ (first + size ≤ 64) × Levelled (now levels) (now index) first size ⌝ }
-    ensures { λ _. ⌜ now (packed .exit) ≡ take at (now (packed .entry)) ++ (rowOf (seatCost (now (levels .entry)) (now (index .entry)) first) size ++ drop (at + 2 ^ size) (now (packed .entry))) ⌝ }
+    ensures { λ _. ⌜ now (packed .exit) ≡ take at (now (packed .entry)) ++ (seatRow (now (levels .entry)) (now (index .entry)) first size ++ drop (at + 2 ^ size) (now (packed .entry))) ⌝ }
 {
     fill_row(&mut packed[at..], spare, levels, index, first, size);
 }
@@ -146,7 +145,7 @@ pub(crate) fn rows(
     groups: usize,
     size: usize,
 ) -> [[u64; 256]; 8]
-    requires { ⌜ GroupSize size × (groups * size ≤ 64) × Levelled (now levels) (now index) 0 (groups * size) ⌝ }
+    requires { ⌜ GroupSize size × Levelled (now levels) (now index) 0 (groups * size) ⌝ }
     ensures { λ r. ⌜ RowsRight (now (levels .entry)) (now (index .entry)) groups size r ⌝ }
 {
     let mut table = [[0u64; 256]; 8];

@@ -6,7 +6,8 @@ use Rattle.rules.specs.Guard.{fewestOnes, guardOf, guardFor}
 use Rattle.rules.specs.Refusals.{done}
 use Rattle.rules.specs.Answers.{guardAnswer}
 use Rattle.word.specs.Words.{sizeOf, fewestOf}
-use Rattle.code.proofs.Tests.{right-size, mask-test, fewest-small, guard-fits}
+use Rattle.word.specs.Sizes.{right-size, mask-test}
+use Rattle.code.proofs.Tests.{fewest-small, guard-fits}
 use borrow.Author.Needs.{needs}
 use Rattle.code.proofs.Code.guard.Statement.{statement}
 use Rattle.code.proofs.Code.guard.Tie as tie

@@ -38,8 +38,10 @@ unfolding slotCost
 returns c =
     let s = c .before .before .before .before in
     let read = ap natAbs (shift-read (s .args .level) (s .fits .level) (s .pre)) in
-    let low : c .before .before .before .apart .result ≡ gap (s .args .level) 0 = omega (arith, c .before .before .before .apart .ensures, read, gap-zero (s .args .level) (s .pre)) in
-    let high : c .before .apart2 .result ≡ gap (s .args .level) 1 = omega (arith, c .before .apart2 .ensures, read, gap-one (s .args .level) (s .pre)) in
+    let low : c .before .before .before .apart .result ≡ gap (s .args .level) 0 =
+    omega (arith, c .before .before .before .apart .ensures, read, gap-zero (s .args .level) (s .pre)) in
+    let high : c .before .apart2 .result ≡ gap (s .args .level) 1 =
+    omega (arith, c .before .apart2 .ensures, read, gap-one (s .args .level) (s .pre)) in
     (c .before .before .square .ensures ∙ ap₂ _*_ low low, c .square2 .ensures ∙ ap₂ _*_ high high)
 
 pub slot-costs-spec : {M : Type 1} → statement M

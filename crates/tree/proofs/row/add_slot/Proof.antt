@@ -8,7 +8,6 @@ use mir.Syntax.{w32}
 use mir.ValLaws.{toZ-ofZ}
 use Rattle.laws.specs.SortedRows.{rowOf, row-rising}
 use Rattle.word.proofs.Shifts.{one-shifted}
-use Rattle.tree.specs.Costs.{seatCost}
 use Rattle.tree.proofs.Building.{entry-small}
 use borrow.Author.Needs.{needs, sfits-of}
 use Rattle.tree.proofs.row.add_slot.Statement.{statement}
@@ -21,12 +20,12 @@ add-seat-level : tie.Need-add-seat-level
 add-seat-level c = search needs
 
 seat-level-requires : tie.Need-seat-level-requires
-seat-level-requires c κs = (omega arith, c .before .before .pre .0 .2 .held (c .before .before .args .t) (omega arith))
+seat-level-requires c κs = (omega arith, c .before .before .pre .0 .1 .held (c .before .before .args .t) (omega arith))
 
 slot-costs-requires : tie.Need-slot-costs-requires
 slot-costs-requires c κs =
     let s = c .before .before .before in
-    rw (toZ-ofZ w32 (c .seat-level .result) (sfits-of (c .seat-level .ok)), c .seat-level .ensures) (s .pre .0 .2 .ranged (s .args .t) (omega arith))
+    rw (toZ-ofZ w32 (c .seat-level .result) (sfits-of (c .seat-level .ok)), c .seat-level .ensures) (s .pre .0 .1 .ranged (s .args .t) (omega arith))
 
 cast-double : tie.Need-cast-double
 cast-double c = search needs
@@ -47,11 +46,12 @@ double-requires : tie.Need-double-requires
 double-requires c κs =
     let s = c .before .before .before .before .before .before .before in
     let m = one-shifted (s .args .t) (omega arith) in
+    let few = pow-mono (s .pre .0 .0) in
     rw m (
       (s .pre .1 .0 .0, omega (arith, two-pow-succ (s .args .t), s .pre .1 .0 .1)),
       (
         rw (s .pre .1 .1) (row-rising _ (s .args .t) (omega arith)),
-        λ i l. omega (arith, entry-small (s .args .levels .now) (s .args .index .now) (s .args .first) (s .args .t) (omega arith) (s .pre .0 .2) (s .args .from .now) (s .pre .1 .1) i l, pow-mono {i = s .args .t} {j = 8} (omega arith)),
+        λ i l. omega (arith, entry-small _ _ (s .args .first) (s .args .t) (s .pre .0 .0) (s .pre .0 .1) (s .args .from .now) (s .pre .1 .1) i l, few),
       ),
     )
 

@@ -15,7 +15,9 @@ abbrev μ-loop : tie.MeasureT-loop
 μ-loop from to₀ m x y a₀ b₀ c₀ d₀ to a b c d = m - (a + b)
 
 loop-holds : tie.Need-loop-holds Inv-loop μ-loop
-loop-holds c = merging-none (c .before .before .args .from .now) (c .before .before .args .m) _ _ (c .before .before .args .to .now) (c .before .before .pre .0 .0) (c .before .before .pre .0 .1)
+loop-holds c =
+    let s = c .before .before in
+    merging-none (s .args .from .now) (s .args .m) (s .args .zero) (s .args .one) (s .args .to .now) (s .pre .0 .0) (s .pre .0 .1)
 
 add-loop : tie.Need-add-loop Inv-loop μ-loop
 add-loop c = search needs
@@ -27,7 +29,9 @@ shared-slice-read-x : tie.Need-shared-slice-read-x Inv-loop μ-loop
 shared-slice-read-x c = search needs
 
 add-x : tie.Need-add-x Inv-loop μ-loop
-add-x c = let s = c .before .before .before .before .before in record { fits = omega (arith, s .pre .1 .1 (c .before .before .loop .a) (omega arith)) }
+add-x c =
+    let s = c .before .before .before .before .before in
+    record { fits = omega (arith, s .pre .1 .1 (c .before .before .loop .a) (omega arith)) }
 
 mul-y : tie.Need-mul-y Inv-loop μ-loop
 mul-y c = search needs
@@ -36,7 +40,9 @@ shared-slice-read-y : tie.Need-shared-slice-read-y Inv-loop μ-loop
 shared-slice-read-y c = search needs
 
 add-y : tie.Need-add-y Inv-loop μ-loop
-add-y c = let s = c .before .before .before .before .before .before in record { fits = omega (arith, s .pre .1 .1 (c .before .before .before .loop .b) (omega arith)) }
+add-y c =
+    let s = c .before .before .before .before .before .before in
+    record { fits = omega (arith, s .pre .1 .1 (c .before .before .before .loop .b) (omega arith)) }
 
 less-requires : tie.Need-less-requires Inv-loop μ-loop
 less-requires c κs = search needs
@@ -63,7 +69,9 @@ shared-slice-read-z : tie.Need-shared-slice-read-z Inv-loop μ-loop
 shared-slice-read-z c = search needs
 
 add-z : tie.Need-add-z Inv-loop μ-loop
-add-z c = let s = c .before .before .before .before .before .before .before .before .before in record { fits = omega (arith, s .pre .1 .1 (c .before .before .before .before .before .before .loop .c - 1) (omega arith)) }
+add-z c =
+    let s = c .before .before .before .before .before .before .before .before .before in
+    record { fits = omega (arith, s .pre .1 .1 (c .before .before .before .before .before .before .loop .c - 1) (omega arith)) }
 
 sub-w : tie.Need-sub-w Inv-loop μ-loop
 sub-w c = search needs
@@ -75,7 +83,9 @@ shared-slice-read-w : tie.Need-shared-slice-read-w Inv-loop μ-loop
 shared-slice-read-w c = search needs
 
 add-w : tie.Need-add-w Inv-loop μ-loop
-add-w c = let s = c .before .before .before .before .before .before .before .before .before .before in record { fits = omega (arith, s .pre .1 .1 (c .before .before .before .before .before .before .before .loop .d - 1) (omega arith)) }
+add-w c =
+    let s = c .before .before .before .before .before .before .before .before .before .before in
+    record { fits = omega (arith, s .pre .1 .1 (c .before .before .before .before .before .before .before .loop .d - 1) (omega arith)) }
 
 less-requires-2 : tie.Need-less-requires-2 Inv-loop μ-loop
 less-requires-2 c κs = search needs
@@ -95,7 +105,8 @@ mul-to-2 c = search needs
 slice-write-to-2 : tie.Need-slice-write-to-2 Inv-loop μ-loop
 slice-write-to-2 c =
     let l = c .before .before .before .before .before .before .before .before .before in
-    rw (length-set (l .loop .to) (l .loop .a + l .loop .b) (c .before .before .before .before .least .result)) (omega (arith, l .loop .inv .ends .long, l .before .before .before .pre .0 .1))
+    rw (length-set (l .loop .to) (l .loop .a + l .loop .b) (c .before .before .before .before .least .result))
+    (omega (arith, l .loop .inv .ends .long, l .before .before .before .pre .0 .1))
 
 add-a : tie.Need-add-a Inv-loop μ-loop
 add-a c = search needs
@@ -124,7 +135,8 @@ loop-again c =
     let s = l .before .before .before in
     rw (c .before .before .before .before .before .less .ensures .0, c .before .less2 .ensures .0)
     (merging-turn (s .args .from .now) (s .args .m) (s .args .zero) (s .args .one) (s .args .to .now) (s .pre .0 .0) (s .pre .0 .1) (s .pre .1 .0) _ _
-    (l .loop .inv) (c .before .before .before .before .before .before .before .before .loop-test .taken) refl (c .before .before .before .before .least .ensures) refl (c .greatest .ensures))
+    (l .loop .inv) (c .before .before .before .before .before .before .before .before .loop-test .taken)
+    refl (c .before .before .before .before .least .ensures) refl (c .greatest .ensures))
 
 same-length : tie.Need-same-length Inv-loop μ-loop
 same-length c = search needs
@@ -132,7 +144,8 @@ same-length c = search needs
 returns : tie.Need-returns Inv-loop μ-loop
 returns c =
     let s = c .before .before .before .before in
-    merging-all (s .args .from .now) (s .args .m) (s .args .zero) (s .args .one) (s .args .to .now) (s .pre .0 .0) (s .pre .0 .1) (c .before .loop .inv) (c .loop-test .left)
+    merging-all (s .args .from .now) (s .args .m) (s .args .zero) (s .args .one) (s .args .to .now) (s .pre .0 .0) (s .pre .0 .1)
+    (c .before .loop .inv) (c .loop-test .left)
 
 pub double-spec : {M : Type 1} → statement M
 double-spec =

@@ -2,8 +2,7 @@
 use Prim.Native.Nat.{_^_}
 use native.Mathlib.Omega.{arith}
 use lib.ListN.{length-take, length-drop}
-use Rattle.laws.specs.SortedRows.{rowOf}
-use Rattle.tree.specs.Costs.{seatCost}
+use Rattle.tree.specs.Costs.{seatRow}
 use Rattle.tree.proofs.Building.{part-put}
 use borrow.Author.Needs.{needs}
 use Rattle.tree.proofs.row.fill_at.Statement.{statement}
@@ -24,7 +23,7 @@ part-fill-row-end c = search needs
 fill-row-requires : tie.Need-fill-row-requires
 fill-row-requires c κs =
     let s = c .before .before .before .before in
-    (s .pre .0, ((simp (length-take, length-drop) (omega (arith, s .pre .1 .0 .0)), s .pre .1 .0 .1), s .pre .1 .1))
+    (s .pre .0, (simp (length-take, length-drop) (omega (arith, s .pre .1 .0)), s .pre .1 .1))
 
 same-length : tie.Need-same-length
 same-length c = search needs
@@ -35,7 +34,8 @@ same-length-2 c = search needs
 returns : tie.Need-returns
 returns c =
     let s = c .before .before .before .before .before .before .before .before .before in
-    part-put (s .args .packed .now) (s .args .at) (2 ^ (s .args .size)) (rowOf (seatCost (s .args .levels .now) (s .args .index .now) (s .args .first)) (s .args .size)) (c .before .before .before .before .fill-row .ensures)
+    let row = seatRow (s .args .levels .now) (s .args .index .now) (s .args .first) (s .args .size) in
+    part-put (s .args .packed .now) (s .args .at) (2 ^ (s .args .size)) row (c .before .before .before .before .fill-row .ensures)
 
 pub fill-at-spec : {M : Type 1} → statement M
 fill-at-spec =
