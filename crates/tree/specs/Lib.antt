@@ -6,3 +6,5 @@ pub mod States
 pub mod Nodes
 pub mod Reading
 pub mod Search
+pub mod LeastAnswer
+pub mod Demand3
