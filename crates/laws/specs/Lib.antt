@@ -33,6 +33,7 @@ pub mod Demand3
 pub mod FillingCount
 pub mod CleanBlock
 pub mod GreatestDistance
+pub mod SquaredNorm
 pub mod Seats
 pub mod SeatWords
 pub mod Placed
