@@ -1,4 +1,4 @@
--- No second answer. Each crate proves it of its public functions, over the contract itself: `f.Learnt` of a function's module
+-- No second answer, and what every answer shows. Each crate proves it of its public functions, over the contract itself: `f.Learnt` of a function's module
 -- `Reads` is what the contract says at lifetimes κs, arguments a, result r and lent memory v after the call.
 use mathlib.Core.Path.{_≡_, sym, _∙_}
 
@@ -15,3 +15,7 @@ module _ {K : Type 0} {A R E : K → Type 0} where
   abbrev pub OneOutcome : {M : Type 0} → ((κs : K) → E κs → M) → ((κs : K) → A κs → R κs → E κs → Type 0) → Type 0
   OneOutcome part contract =
       (κs : K) (a : A κs) (r s : R κs) (v w : E κs) → contract κs a r v → contract κs a s w → (r ≡ s) × (part κs v ≡ part κs w)
+
+  -- every result that meets the contract has a property
+  abbrev pub Shown : ((κs : K) → A κs → R κs → E κs → Type 0) → ((κs : K) → A κs → R κs → Type 0) → Type 0
+  Shown contract property = (κs : K) (a : A κs) (r : R κs) (v : E κs) → contract κs a r v → property κs a r

@@ -1,0 +1,36 @@
+-- The guard that `code::Code::guard` answers is the guard that the theorems on decoding speak of; that there is none means K = 0.
+-- The contract is that of src/, as the check reads it; the argument is the code.
+use Prim.Native.Nat.{ℕ}
+use mathlib.Core.Path.{_≡_, refl, sym, ap, _∙_}
+use mathlib.Core.Option.{Option, none, some}
+use mathlib.Core.List.{List, [], _∷_}
+use native.Mathlib.Omega.{arith}
+use Rattle.rules.specs.Word.{messageBits}
+use Rattle.rules.specs.Guard.{guardOf}
+use Rattle.rules.specs.Refusals.{Refusal, done, answer, wrongSize, wrongMask}
+use Rattle.rules.specs.Answers.{guardAnswer}
+use Rattle.laws.specs.Answers.{Shown}
+use Rattle.laws.specs.LeastBelow.{no-guard}
+use Rattle.word.specs.Words.{wordOf}
+use Rattle.code.specs.Reading.{guardedOf}
+use Rattle.code.specs.declared.Guard as g
+use Rattle.code.proofs.Code.guard.Reads as guard
+
+-- an answer that is a success is the one that the order leads to
+is-success : {A : Type 0} (order : List (Option Refusal)) (success given : A) → done given ≡ answer order success → success ≡ given
+is-success [] success given e = cc
+is-success (none ∷ order) success given e = is-success order success given e
+is-success (some r ∷ order) success given e = cc
+
+guard-answered : (n mask : ℕ) (given : Option ℕ) → done given ≡ guardAnswer n mask → guardOf n mask ≡ given
+unfolding guardAnswer
+guard-answered n mask given e = is-success (wrongSize n ∷ wrongMask n mask ∷ []) (guardOf n mask) given e
+
+-- a figure is the guard of the mask
+pub guard-figure : Shown guard.Learnt (λ κs a r. (figure : ℕ) → r ≡ g.the-variants.Guard figure
+    → guardOf (a .0 .n) (wordOf (a .0 .frozen)) ≡ some figure)
+guard-figure κs a r v learnt figure e = guard-answered _ _ (some figure) (sym (ap guardedOf e) ∙ learnt)
+
+-- no guard: there is no message bit
+pub guard-absent : Shown guard.Learnt (λ κs a r. r ≡ g.the-variants.NoGuard → messageBits (a .0 .n) (wordOf (a .0 .frozen)) ≡ 0)
+guard-absent κs a r v learnt e = no-guard _ _ .0 (guard-answered _ _ none (sym (ap guardedOf e) ∙ learnt))
