@@ -15,3 +15,4 @@ pub mod Emptiness
 pub mod Found
 pub mod Checks
 pub mod Demand3
+pub mod LeastAnswer

@@ -3,25 +3,25 @@
 -- visits than are allowed.
 use Prim.Native.Nat.{ℕ, suc, _-_, _^_, _≤_, _<_}
 use mathlib.Core.Path.{_≡_, refl, sym, ap, _∙_}
-use mathlib.Core.Bool.{Bool, true, false, not, cond, _||_, true≢false}
+use mathlib.Core.Bool.{Bool, true, false, not, _||_, true≢false}
 use mathlib.Core.Option.{Option, none, some, Option·none-ne-some}
 use mathlib.Core.List.{List, [], _∷_}
 use native.Mathlib.Omega.{arith}
 use lib.Count.{ones}
-use lib.Dec.{leb, ltb, eqb}
+use lib.Dec.{ltb}
 use lib.IntN.{ℤ}
 use lib.ListN.{length}
 use lib.Pow.{pow-pos}
 use borrow.Author.Tests.{ltb-false, leb-false, eqb-true, not-false, lt-ltb, le-ltb, lt-leb, eq-eqb}
 use Rattle.rules.specs.Below.{firstBelow}
 use Rattle.rules.specs.Word.{codeword, gather}
-use Rattle.rules.specs.Level.{inRange, levelAt, levelCost, wordDistance, leastWord, Least}
+use Rattle.rules.specs.Level.{inRange, levelAt, levelCost, wordDistance, Least}
 use Rattle.rules.specs.Folding.{group, groups}
 use Rattle.rules.specs.Walk.{fillings, walkVisits}
 use Rattle.rules.specs.Refusals.{Refusal, Answer, refused, done, answer, refuse, refuseAt, isEmpty, isWrongSize, wrongSize, wrongLength, wrongMask, wrongFolding, wideFolding, outOfRange, noCandidate, smallAllowance}
 use Rattle.rules.specs.Answers.{Decoded, decoded, treeOrder, decodeAnswer}
 use Rattle.laws.specs.Sums.{none-at, none-of}
-use Rattle.laws.specs.Least.{leastWord-least}
+use Rattle.laws.specs.Least.{leastWord-least, least-unique}
 use Rattle.laws.specs.FillingNumber.{unfrozenIn, fillings-number}
 
 -- what refusals 1 to 6 let pass
@@ -152,3 +152,17 @@ module _ (n : ℕ) (levels : List ℤ) (mask folding allowance : ℕ) where
     pub accepted-gives-up : allowance < walkVisits n mask (levelCost levels) folding
         → decodeAnswer n levels mask folding allowance ≡ refused (record { number = 8; values = [] })
     accepted-gives-up short = only-eight ∙ rw (lt-ltb allowance (walkVisits n mask (levelCost levels) folding) short)
+
+-- finished answers to the same levels and mask have the same words and distance, whatever the folding and the allowance
+pub every-folding : (n : ℕ) (levels : List ℤ) (mask folding other allowance allowed : ℕ) (a b : Decoded)
+    → decodeAnswer n levels mask folding allowance ≡ done a → decodeAnswer n levels mask other allowed ≡ done b
+    → (a .message ≡ b .message) × (a .d ≡ b .d) × (a .x ≡ b .x) × (a .distance ≡ b .distance)
+every-folding n levels mask folding other allowance allowed a b e f =
+    let p = done-least n levels mask folding allowance a e in
+    let q = done-least n levels mask other allowed b f in
+    let same : a .d ≡ b .d = least-unique n mask (levelCost levels) (a .d) (b .d) (p .least) (q .least) in (
+      p .message ∙ ap (gather n mask) same ∙ sym (q .message),
+      same,
+      p .codeword ∙ ap (codeword n) same ∙ sym (q .codeword),
+      p .distance ∙ ap (wordDistance n (levelCost levels)) same ∙ sym (q .distance),
+    )
