@@ -1,0 +1,25 @@
+// An independent second decoder by full listing, held against `tree::decode`: every mask and every folding at n = 1, 2, 3, and
+// sampled masks with every folding at n = 4. It prints how many cases were compared, and a line for each that differs.
+mod cases;
+mod compare;
+mod least;
+mod levels;
+mod rule;
+mod text;
+
+// Every mask at n = 1, 2, 3: 4, 16 and 256 of them. At n = 4 there are 32 sampled masks.
+fn main() {
+    let one = cases::size(1, 2, 4);
+    let two = cases::size(2, 4, 16);
+    let three = cases::size(3, 8, 256);
+    let four = cases::size(4, 16, 32);
+    text::number(
+        b"total compared=",
+        one.compared + two.compared + three.compared + four.compared,
+    );
+    text::number(
+        b" different=",
+        one.different + two.different + three.different + four.different,
+    );
+    text::end();
+}
