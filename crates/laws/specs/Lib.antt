@@ -32,3 +32,4 @@ pub mod Demand3
 pub mod FillingCount
 pub mod CleanBlock
 pub mod GreatestDistance
+pub mod LittleEndian

@@ -1,0 +1,2 @@
+// Recorded blocks: a record's fields from its bytes, and the line of an answer.
+pub mod read;
