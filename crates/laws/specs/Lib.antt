@@ -33,3 +33,6 @@ pub mod FillingCount
 pub mod CleanBlock
 pub mod GreatestDistance
 pub mod LittleEndian
+pub mod Digits
+pub mod Stores
+pub mod Texts

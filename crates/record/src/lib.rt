@@ -1,2 +1,3 @@
 // Recorded blocks: a record's fields from its bytes, and the line of an answer.
 pub mod read;
+pub mod text;
