@@ -1,6 +1,6 @@
 -- Digits: a number in decimal from its last digit on and how long it is, and hexadecimal digits of a number shifted down.
 use Prim.Native.Nat.{ℕ, zero, suc, _+_, _*_, _/_, _%_, _^_, _≤_, _<_}
-use mathlib.Core.Path.{_≡_, refl, sym, _∙_, ap}
+use mathlib.Core.Path.{_≡_, refl, _∙_, ap}
 use mathlib.Core.Bool.{Bool, true, false}
 use mathlib.Core.List.{List, [], _∷_, _++_}
 use native.Mathlib.Nat.{not-suc-le-zero, pow-suc, pow-succ', div-div-eq-div-mul}
@@ -44,6 +44,9 @@ decimal-more v l =
     up-to-more v v l
     ∙ ap (λ (s : List ℕ). s ++ (digit (v % 10) ∷ [])) (enough v (suc (v / 10)) (v / 10) (omega arith) (omega arith))
 
+pub decimal-more-length : (v : ℕ) → 10 ≤ v → length (decimal v) ≡ length (decimal (v / 10)) + 1
+decimal-more-length v l = ap length (decimal-more v l) ∙ length-append (decimal (v / 10)) (digit (v % 10) ∷ [])
+
 -- a number below a power of ten has no more digits than its exponent
 pub decimal-length : (k v : ℕ) → v < 10 ^ suc k → length (decimal v) ≤ suc k
 decimal-length zero v l = rw (decimal-one v l) (omega arith)
@@ -52,7 +55,7 @@ decimal-length (suc k) v l =
   where
     go : Dec (v < 10) → length (decimal (v / 10)) ≤ suc k → length (decimal v) ≤ suc (suc k)
     go (yes small) shorter = rw (decimal-one v small) (omega arith)
-    go (no large) shorter = rw (decimal-more v (omega arith), length-append) (omega arith)
+    go (no large) shorter = omega (arith, decimal-more-length v (omega arith))
 
 -- so many hexadecimal digits
 pub hex-length : (count v : ℕ) → length (hex count v) ≡ count
