@@ -1,5 +1,5 @@
 -- What the contracts of a line speak of: text put into a buffer, the answer of a finished decoding, and a line by value.
-use Prim.Native.Nat.{ℕ, _+_, _-_}
+use Prim.Native.Nat.{ℕ, _+_, _-_, _≤_}
 use mathlib.Core.Path.{_≡_}
 use mathlib.Core.List.{List, _++_}
 use lib.ListN.{length, replicate}
@@ -12,6 +12,11 @@ use Rattle.record.specs.declared.text.Line.{Line}
 pub record Put (before : List ℕ) (at : ℕ) (text : List ℕ) (end : ℕ) (after : List ℕ) : Type 0 where
   pub ends : end ≡ at + length text
   pub holds : after ≡ sets before at text
+
+-- and it is not longer than so many bytes
+pub record Within (most : ℕ) (before : List ℕ) (at : ℕ) (text : List ℕ) (end : ℕ) (after : List ℕ) : Type 0 where
+  pub put : Put before at text end after
+  pub short : length text ≤ most
 
 -- the answer of a finished decoding
 abbrev pub found : ℕ → ℕ → ℕ → ℕ → ℕ → Answer Decoded

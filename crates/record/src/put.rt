@@ -1,5 +1,6 @@
 // Text put into a lent buffer from a place on: bytes, a number in decimal, hexadecimal digits. Each answers the place behind.
 ghost use mathlib.Core.Path.{_≡_};
+ghost use mathlib.Core.List.{_++_};
 ghost use Prim.Native.Nat.{_+_, _≤_, _<_};
 ghost use lib.ListN.{length};
 ghost use Rattle.rules.specs.Text as rules;
@@ -39,6 +40,15 @@ pub(crate) fn put_decimal(out: &mut [u8], at: usize, v: u64) -> usize
         out[last] = digit(v % 10);
         last + 1
     }
+}
+
+// A space and a number in decimal.
+pub(crate) fn put_spaced(out: &mut [u8], at: usize, v: u64) -> usize
+    requires { ⌜ at + length (rules.space ++ rules.decimal v) ≤ length (now out) ⌝ }
+    ensures { λ r. ⌜ Put (now (out .entry)) at (rules.space ++ rules.decimal v) r (now (out .exit)) ⌝ }
+{
+    let at = put_bytes(out, at, b" ");
+    put_decimal(out, at, v)
 }
 
 // A number as 16 hexadecimal digits, the highest first.

@@ -6,10 +6,11 @@ ghost use Rattle.rules.specs.Text.{line};
 ghost use Rattle.rules.specs.Refusals as rules;
 ghost use Rattle.refusal.specs.Number.{refusalOf};
 ghost use Rattle.word.specs.Words.{wordOf};
-ghost use Rattle.record.specs.Lines.{Put, found, longest, padded};
+ghost use Rattle.record.specs.Lines.{Within, found, longest, padded};
 use crate::put::put_bytes;
 use crate::put::put_decimal;
 use crate::put::put_hex;
+use crate::put::put_spaced;
 use refusal::Refusal;
 use word::Word;
 
@@ -20,28 +21,33 @@ pub struct Line {
 }
 
 // The line of a finished decoding.
-pub(crate) fn put_found(out: &mut [u8], at: usize, number: u32, message: Word, distance: u32, visits: u32) -> usize
+pub(crate) fn put_found(
+    out: &mut [u8],
+    at: usize,
+    number: u32,
+    message: Word,
+    distance: u32,
+    visits: u32,
+) -> usize
     requires { ⌜ at + longest ≤ length (now out) ⌝ }
-    ensures { λ r. ⌜ ((d x : ℕ) → Put (now (out .entry)) at (line number (found (wordOf message) d x distance visits)) r (now (out .exit))) ⌝ }
+    ensures { λ r. ⌜ ((d x : ℕ) → Within longest (now (out .entry)) at (line number (found (wordOf message) d x distance visits)) r (now (out .exit))) ⌝ }
 {
     let at = put_decimal(out, at, number as u64);
     let at = put_bytes(out, at, b" found ");
     let at = put_hex(out, at, message);
-    let at = put_bytes(out, at, b" ");
-    let at = put_decimal(out, at, distance as u64);
-    let at = put_bytes(out, at, b" ");
-    let at = put_decimal(out, at, visits as u64);
+    let at = put_spaced(out, at, distance as u64);
+    let at = put_spaced(out, at, visits as u64);
     put_bytes(out, at, b"\n")
 }
 
 // The line of a refusal.
 pub(crate) fn put_refused(out: &mut [u8], at: usize, number: u32, refusal: Refusal) -> usize
     requires { ⌜ at + longest ≤ length (now out) ⌝ }
-    ensures { λ r. ⌜ Put (now (out .entry)) at (line number (rules.refused (refusalOf refusal))) r (now (out .exit)) ⌝ }
+    ensures { λ r. ⌜ Within longest (now (out .entry)) at (line number (rules.refused (refusalOf refusal))) r (now (out .exit)) ⌝ }
 {
     let at = put_decimal(out, at, number as u64);
-    let at = put_bytes(out, at, b" refused ");
-    let at = put_decimal(out, at, refusal::number(refusal) as u64);
+    let at = put_bytes(out, at, b" refused");
+    let at = put_spaced(out, at, refusal::number(refusal) as u64);
     put_bytes(out, at, b"\n")
 }
 

@@ -1,21 +1,17 @@
+-- `record::text::found_line` meets its contract.
+use Rattle.record.proofs.Puts.{padded-line}
 use borrow.Author.Needs.{needs}
 use Rattle.record.proofs.text.found_line.Statement.{statement}
 use Rattle.record.proofs.text.found_line.Tie as tie
-use Rattle.record.proofs.text.found_line.Reads as reads
-use Rattle.record.proofs.text.found_line.Lts as lts
-use Rattle.record.proofs.text.put_found.Reads as put-found-reads
 
--- src/text.rt:53:25
 slice-aggregate-put-found : tie.Need-slice-aggregate-put-found
 slice-aggregate-put-found c = search needs
 
--- src/text.rt:53:9
 put-found-requires : tie.Need-put-found-requires
 put-found-requires c κs = search needs
 
--- src/text.rt:49:1
 returns : tie.Need-returns
-returns c = ?
+returns c = λ d x. padded-line (c .before .put-found .ensures d x)
 
 pub found-line-spec : {M : Type 1} → statement M
 found-line-spec = tie.close (tie.spec slice-aggregate-put-found put-found-requires returns)

@@ -1,67 +1,85 @@
+-- `record::text::put_found` meets its contract.
+use Prim.Native.Nat.{ℕ}
+use mathlib.Core.Path.{_≡_}
+use mathlib.Core.List.{List, _++_, append-assoc}
+use native.Mathlib.Omega.{arith}
+use Rattle.rules.specs.Text.{decimal, hex, space, foundWord, lineEnd, line}
+use Rattle.laws.specs.Digits.{hex-length}
+use Rattle.record.specs.Lines.{Within, found}
+use Rattle.record.proofs.Puts.{within-then, room-left, ten-digits, spaced-short}
 use borrow.Author.Needs.{needs}
 use Rattle.record.proofs.text.put_found.Statement.{statement}
 use Rattle.record.proofs.text.put_found.Tie as tie
-use Rattle.record.proofs.text.put_found.Reads as reads
-use Rattle.record.proofs.text.put_found.Lts as lts
-use Rattle.record.proofs.put.put_bytes.Reads as put-bytes-reads
-use Rattle.record.proofs.put.put_decimal.Reads as put-decimal-reads
-use Rattle.record.proofs.put.put_hex.Reads as put-hex-reads
 
--- src/text.rt:27:9
+-- the parts of the line, each with those before it
+abbrev word : tie.Start → List ℕ
+word c = decimal (c .args .number) ++ (space ++ foundWord ++ space)
+
+abbrev message : tie.Start → List ℕ
+message c = word c ++ hex 16 (c .args .message)
+
+abbrev distance : tie.Start → List ℕ
+distance c = message c ++ (space ++ decimal (c .args .distance))
+
+abbrev visits : tie.Start → List ℕ
+visits c = distance c ++ (space ++ decimal (c .args .visits))
+
+whole : (c : tie.Start) (d x : ℕ) → visits c ++ lineEnd ≡ line (c .args .number) (found (c .args .message) d x (c .args .distance) (c .args .visits))
+unfolding line
+whole c d x = simp append-assoc
+
+-- what is put after each call, and how long it is at most
+abbrev Part : tie.Start → ℕ → List ℕ → ℕ → List ℕ → Type 0
+Part c most text end after = Within most (c .args .out .now) (c .args .at) text end after
+
+number-put : (c : tie.After-put-decimal)
+    → Part (c .before .before .before) 10 (decimal (c .before .before .before .args .number)) (c .put-decimal .result) (c .put-decimal .last .0)
+number-put c = record { put = c .put-decimal .ensures; short = ten-digits _ (omega arith) }
+
+word-put : (c : tie.After-put-bytes) → Part (c .before .before .before .before .before .before .before .before) 17 (word (c .before .before .before .before .before .before .before .before)) (c .put-bytes .result) (c .put-bytes .last .0)
+word-put c = within-then (number-put (c .before .before .before .before .before)) 7 (c .put-bytes .ensures) (omega arith)
+
+message-put : (c : tie.After-put-hex) → Part (c .before .before .before .before .before .before .before .before .before .before .before .before) 33 (message (c .before .before .before .before .before .before .before .before .before .before .before .before)) (c .put-hex .result) (c .put-hex .last .0)
+message-put c = within-then (word-put (c .before .before .before .before)) 16 (c .put-hex .ensures) (omega (arith, hex-length 16 (c .before .before .before .before .before .before .before .before .before .before .before .before .args .message)))
+
+distance-put : (c : tie.After-put-spaced) → Part (c .before .before .before .before .before .before .before .before .before .before .before .before .before .before .before .before) 44 (distance (c .before .before .before .before .before .before .before .before .before .before .before .before .before .before .before .before)) (c .put-spaced .result) (c .put-spaced .last .0)
+distance-put c = within-then (message-put (c .before .before .before .before)) 11 (c .put-spaced .ensures) (spaced-short _ (omega arith))
+
+visits-put : (c : tie.After-put-spaced2) → Part (c .before .before .before .before .before .before .before .before .before .before .before .before .before .before .before .before .before .before .before .before) 55 (visits (c .before .before .before .before .before .before .before .before .before .before .before .before .before .before .before .before .before .before .before .before)) (c .put-spaced2 .result) (c .put-spaced2 .last .0)
+visits-put c = within-then (distance-put (c .before .before .before .before)) 11 (c .put-spaced2 .ensures) (spaced-short _ (omega arith))
+
 put-decimal-requires : tie.Need-put-decimal-requires
-put-decimal-requires c κs = ?
+put-decimal-requires c κs = omega (arith, ten-digits (c .before .before .args .number) (omega arith))
 
--- src/text.rt:28:33
 slice-aggregate-put-bytes : tie.Need-slice-aggregate-put-bytes
 slice-aggregate-put-bytes c = search needs
 
--- src/text.rt:28:9
 put-bytes-requires : tie.Need-put-bytes-requires
-put-bytes-requires c κs = ?
+put-bytes-requires c κs = room-left (number-put (c .before .before .before .before)) 7 (c .before .before .before .before .before .before .before .pre) (omega arith)
 
--- src/text.rt:29:9
 put-hex-requires : tie.Need-put-hex-requires
-put-hex-requires c κs = ?
+put-hex-requires c κs = room-left (word-put (c .before .before .before)) 16 (c .before .before .before .before .before .before .before .before .before .before .before .pre) (omega arith)
 
--- src/text.rt:30:33
+put-spaced-requires : tie.Need-put-spaced-requires
+put-spaced-requires c κs =
+    omega (arith, room-left (message-put (c .before .before .before)) 11 (c .before .before .before .before .before .before .before .before .before .before .before .before .before .before .before .pre) (omega arith), spaced-short (c .before .before .before .before .before .before .before .before .before .before .before .before .before .before .before .args .distance) (omega arith))
+
+put-spaced-requires-2 : tie.Need-put-spaced-requires-2
+put-spaced-requires-2 c κs =
+    omega (arith, room-left (distance-put (c .before .before .before)) 11 (c .before .before .before .before .before .before .before .before .before .before .before .before .before .before .before .before .before .before .before .pre) (omega arith), spaced-short (c .before .before .before .before .before .before .before .before .before .before .before .before .before .before .before .before .before .before .before .args .visits) (omega arith))
+
 slice-aggregate-put-bytes-2 : tie.Need-slice-aggregate-put-bytes-2
 slice-aggregate-put-bytes-2 c = search needs
 
--- src/text.rt:30:9
 put-bytes-requires-2 : tie.Need-put-bytes-requires-2
-put-bytes-requires-2 c κs = ?
+put-bytes-requires-2 c κs = room-left (visits-put (c .before .before .before .before)) 1 (c .before .before .before .before .before .before .before .before .before .before .before .before .before .before .before .before .before .before .before .before .before .before .before .before .pre) (omega arith)
 
--- src/text.rt:31:9
-put-decimal-requires-2 : tie.Need-put-decimal-requires-2
-put-decimal-requires-2 c κs = ?
-
--- src/text.rt:32:33
-slice-aggregate-put-bytes-3 : tie.Need-slice-aggregate-put-bytes-3
-slice-aggregate-put-bytes-3 c = search needs
-
--- src/text.rt:32:9
-put-bytes-requires-3 : tie.Need-put-bytes-requires-3
-put-bytes-requires-3 c κs = ?
-
--- src/text.rt:33:9
-put-decimal-requires-3 : tie.Need-put-decimal-requires-3
-put-decimal-requires-3 c κs = ?
-
--- src/text.rt:34:24
-slice-aggregate-put-bytes-4 : tie.Need-slice-aggregate-put-bytes-4
-slice-aggregate-put-bytes-4 c = search needs
-
--- src/text.rt:34:5
-put-bytes-requires-4 : tie.Need-put-bytes-requires-4
-put-bytes-requires-4 c κs = ?
-
--- src/text.rt:23:1
 same-length : tie.Need-same-length
-same-length c = ?
+same-length c = search needs
 
--- src/text.rt:23:1
 returns : tie.Need-returns
-returns c = ?
+returns c =
+    λ d x. rw (← whole (c .before .before .before .before .before .before .before .before .before .before .before .before .before .before .before .before .before .before .before .before .before .before .before .before .before .before .before) d x) (within-then (visits-put (c .before .before .before .before .before .before .before)) 1 (c .before .before .put-bytes2 .ensures) (omega arith))
 
 pub put-found-spec : {M : Type 1} → statement M
 put-found-spec =
@@ -71,13 +89,9 @@ put-found-spec =
     slice-aggregate-put-bytes
     put-bytes-requires
     put-hex-requires
+    put-spaced-requires
+    put-spaced-requires-2
     slice-aggregate-put-bytes-2
     put-bytes-requires-2
-    put-decimal-requires-2
-    slice-aggregate-put-bytes-3
-    put-bytes-requires-3
-    put-decimal-requires-3
-    slice-aggregate-put-bytes-4
-    put-bytes-requires-4
     same-length
     returns)

@@ -1,51 +1,74 @@
+-- `record::text::put_refused` meets its contract.
+use Prim.Native.Nat.{ℕ}
+use mathlib.Core.Path.{_≡_}
+use mathlib.Core.List.{List, _++_, append-assoc}
+use native.Mathlib.Omega.{arith}
+use Rattle.rules.specs.Refusals.{refused}
+use Rattle.rules.specs.Text.{decimal, space, refusedWord, lineEnd, line}
+use Rattle.refusal.specs.Number.{numberOf, refusalOf}
+use Rattle.record.specs.Lines.{Within}
+use Rattle.record.proofs.Puts.{within-then, room-left, ten-digits, spaced-short}
 use borrow.Author.Needs.{needs}
 use Rattle.record.proofs.text.put_refused.Statement.{statement}
 use Rattle.record.proofs.text.put_refused.Tie as tie
-use Rattle.record.proofs.text.put_refused.Reads as reads
-use Rattle.record.proofs.text.put_refused.Lts as lts
-use Rattle.record.proofs.put.put_bytes.Reads as put-bytes-reads
-use Rattle.record.proofs.put.put_decimal.Reads as put-decimal-reads
-use Rattle.refusal.proofs.number.Reads as number-reads
 
--- src/text.rt:42:9
+-- the parts of the line, each with those before it
+abbrev word : tie.Start → List ℕ
+word c = decimal (c .args .number) ++ (space ++ refusedWord)
+
+abbrev refusal : tie.Start → List ℕ
+refusal c = word c ++ (space ++ decimal (numberOf (c .args .refusal)))
+
+whole : (c : tie.Start) → refusal c ++ lineEnd ≡ line (c .args .number) (refused (refusalOf (c .args .refusal)))
+unfolding line
+whole c = simp append-assoc
+
+-- what is put after each call, and how long it is at most
+abbrev Part : tie.Start → ℕ → List ℕ → ℕ → List ℕ → Type 0
+Part c most text end after = Within most (c .args .out .now) (c .args .at) text end after
+
+number-put : (c : tie.After-put-decimal)
+    → Part (c .before .before .before) 10 (decimal (c .before .before .before .args .number)) (c .put-decimal .result) (c .put-decimal .last .0)
+number-put c = record { put = c .put-decimal .ensures; short = ten-digits _ (omega arith) }
+
+word-put : (c : tie.After-put-bytes) → Part (c .before .before .before .before .before .before .before .before) 18 (word (c .before .before .before .before .before .before .before .before)) (c .put-bytes .result) (c .put-bytes .last .0)
+word-put c = within-then (number-put (c .before .before .before .before .before)) 8 (c .put-bytes .ensures) (omega arith)
+
+refusal-put : (c : tie.After-put-spaced) → Part (c .before .before .before .before .before .before .before .before .before .before .before .before .before) 29 (refusal (c .before .before .before .before .before .before .before .before .before .before .before .before .before)) (c .put-spaced .result) (c .put-spaced .last .0)
+refusal-put c =
+    rw (← c .before .number .ensures)
+    (within-then (word-put (c .before .before .before .before .before)) 11 (c .put-spaced .ensures) (spaced-short _ (omega arith)))
+
 put-decimal-requires : tie.Need-put-decimal-requires
-put-decimal-requires c κs = ?
+put-decimal-requires c κs = omega (arith, ten-digits (c .before .before .args .number) (omega arith))
 
--- src/text.rt:43:33
 slice-aggregate-put-bytes : tie.Need-slice-aggregate-put-bytes
 slice-aggregate-put-bytes c = search needs
 
--- src/text.rt:43:9
 put-bytes-requires : tie.Need-put-bytes-requires
-put-bytes-requires c κs = ?
+put-bytes-requires c κs = room-left (number-put (c .before .before .before .before)) 8 (c .before .before .before .before .before .before .before .pre) (omega arith)
 
--- src/text.rt:44:35
 number-requires : tie.Need-number-requires
 number-requires c κs = search needs
 
--- src/text.rt:44:35
-cast-put-decimal : tie.Need-cast-put-decimal
-cast-put-decimal c = search needs
+cast-put-spaced : tie.Need-cast-put-spaced
+cast-put-spaced c = search needs
 
--- src/text.rt:44:9
-put-decimal-requires-2 : tie.Need-put-decimal-requires-2
-put-decimal-requires-2 c κs = ?
+put-spaced-requires : tie.Need-put-spaced-requires
+put-spaced-requires c κs =
+    omega (arith, room-left (word-put (c .before .before .before .before)) 11 (c .before .before .before .before .before .before .before .before .before .before .before .before .pre) (omega arith), spaced-short (c .number .result) (omega arith))
 
--- src/text.rt:45:24
 slice-aggregate-put-bytes-2 : tie.Need-slice-aggregate-put-bytes-2
 slice-aggregate-put-bytes-2 c = search needs
 
--- src/text.rt:45:5
 put-bytes-requires-2 : tie.Need-put-bytes-requires-2
-put-bytes-requires-2 c κs = ?
+put-bytes-requires-2 c κs = room-left (refusal-put (c .before .before .before .before)) 1 (c .before .before .before .before .before .before .before .before .before .before .before .before .before .before .before .before .before .pre) (omega arith)
 
--- src/text.rt:38:1
 same-length : tie.Need-same-length
 same-length c = search needs
 
--- src/text.rt:38:1
 returns : tie.Need-returns
-returns c = ?
+returns c = rw (← whole (c .before .before .before .before .before .before .before .before .before .before .before .before .before .before .before .before .before .before .before .before)) (within-then (refusal-put (c .before .before .before .before .before .before .before)) 27 (c .before .before .put-bytes2 .ensures) (omega arith))
 
 pub put-refused-spec : {M : Type 1} → statement M
 put-refused-spec =
@@ -55,8 +78,8 @@ put-refused-spec =
     slice-aggregate-put-bytes
     put-bytes-requires
     number-requires
-    cast-put-decimal
-    put-decimal-requires-2
+    cast-put-spaced
+    put-spaced-requires
     slice-aggregate-put-bytes-2
     put-bytes-requires-2
     same-length
