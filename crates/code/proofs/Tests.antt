@@ -29,9 +29,13 @@ pub right-size : (n : ℕ) → isWrongSize n ≡ false → sizeOf n ≡ n
 right-size n e = omega (arith, size-le n e)
 
 module _ (n : ℕ) (right : isWrongSize n ≡ false) where
+  -- the slots counted at the size are N
+  pub slots-right : (slots : ℕ) → slots ≡ 2 ^ sizeOf n → slots ≡ 2 ^ n
+  slots-right slots count = count ∙ ap (λ (k : ℕ). 2 ^ k) (right-size n right)
+
   -- a test of the mask against the slots is the rules' test
   pub mask-test : (mask slots : ℕ) (t : Bool) → slots ≡ 2 ^ sizeOf n → t ≡ leb (2 ^ slots) mask → leb (2 ^ (2 ^ n)) mask ≡ t
-  mask-test mask slots t count test = sym (test ∙ ap (λ (m : ℕ). leb (2 ^ m) mask) (count ∙ ap (λ (k : ℕ). 2 ^ k) (right-size n right)))
+  mask-test mask slots t count test = sym (test ∙ ap (λ (m : ℕ). leb (2 ^ m) mask) (slots-right slots count))
 
   -- a test of the message against K is the rules' test
   pub message-test : (mask bits message : ℕ) (t : Bool) → bits ≡ messageBits (sizeOf n) mask → t ≡ leb (2 ^ bits) message
@@ -45,7 +49,7 @@ module _ (n : ℕ) (right : isWrongSize n ≡ false) where
   words-right mask message d x isWord isCode =
       let word : d ≡ spread n mask message = isWord ∙ ap (λ (k : ℕ). spread k mask message) (right-size n right) in
       let code : x ≡ codeword n (spread n mask message) =
-        isCode ∙ ap (codeword 6) word ∙ codeword-longer n 6 _ (size-le n right) (spread-lt n mask message)
+      isCode ∙ ap (codeword 6) word ∙ codeword-longer n 6 _ (size-le n right) (spread-lt n mask message)
       in
       λ i. record { d = word i; x = code i }
 

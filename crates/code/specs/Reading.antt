@@ -11,8 +11,11 @@ use Rattle.code.specs.declared.Made as m
 use Rattle.code.specs.declared.Guard as g
 use Rattle.code.specs.declared.Encoded as e
 
+abbrev pub codeOf : c.Code → NumberAndMask
+codeOf code = record { n = code .n; mask = wordOf (code .frozen) }
+
 abbrev pub madeOf : m.Made → Answer NumberAndMask
-madeOf (m.the-variants.Code code) = done (record { n = code .n; mask = wordOf (code .frozen) })
+madeOf (m.the-variants.Code code) = done (codeOf code)
 madeOf (m.the-variants.Refused r) = refused (refusalOf r)
 
 abbrev pub guardedOf : g.Guard → Answer (Option ℕ)

@@ -1,11 +1,12 @@
 // Codes: an n with a frozen mask. The constructor, the guard, and encoding to words or to ideal levels.
 // A Code is plain data that a caller can make up, so every function that takes one refuses 1 and 3 itself.
+pub mod levels;
+
 ghost use mathlib.Core.Path.{_≡_};
-ghost use Rattle.rules.specs.Level as rules;
-ghost use Rattle.rules.specs.Answers.{encodeAnswer, encodeLevelsAnswer, encodeLevelsLeft, guardAnswer};
+ghost use Rattle.rules.specs.Answers.{encodeAnswer, guardAnswer};
 ghost use Rattle.word.specs.Words.{wordOf};
-ghost use Rattle.code.specs.Reading.{madeOf, guardedOf, encodedOf};
-ghost use Rattle.code.specs.Made.{madeAnswer};
+ghost use Rattle.code.specs.Reading.{codeOf, madeOf, guardedOf, encodedOf};
+ghost use Rattle.code.specs.Made.{madeAnswer, reedMuller};
 use refusal::Refusal;
 use word::Word;
 use word::count::Fewest;
@@ -37,6 +38,16 @@ pub enum Encoded {
 impl Code {
     // The frozen mask of RM(64,57), at n = 6.
     pub const RM_64_57: Word = 0x0000000100010117;
+
+    // RM(64,57).
+    pub fn reed_muller() -> Code
+        ensures { λ r. ⌜ codeOf r ≡ reedMuller ⌝ }
+    {
+        Code {
+            n: 6,
+            frozen: Code::RM_64_57,
+        }
+    }
 
     // The code of an n and a mask; refusals 1, 3.
     pub fn new(n: u32, frozen: Word) -> Made

@@ -1,6 +1,17 @@
--- No second answer, for every contract that is an equation with a definition of the rules.
+-- No second answer. Each crate proves it of its public functions, over the contract itself: `f.Learnt` of a function's module
+-- `Reads` is what the contract says at lifetimes κs, arguments a, result r and lent memory v after the call.
 use mathlib.Core.Path.{_≡_, sym, _∙_}
 
 -- two answers that both equal what the rules give are one
 pub one-answer : {A : Type 0} {a b given : A} → a ≡ given → b ≡ given → a ≡ b
 one-answer p q = p ∙ sym q
+
+module _ {K : Type 0} {A R E : K → Type 0} where
+  -- two results that meet the contract are equal
+  abbrev pub OneResult : ((κs : K) → A κs → R κs → E κs → Type 0) → Type 0
+  OneResult contract = (κs : K) (a : A κs) (r s : R κs) (v w : E κs) → contract κs a r v → contract κs a s w → r ≡ s
+
+  -- and so is the lent memory, at the part that `part` picks
+  abbrev pub OneOutcome : {M : Type 0} → ((κs : K) → E κs → M) → ((κs : K) → A κs → R κs → E κs → Type 0) → Type 0
+  OneOutcome part contract =
+      (κs : K) (a : A κs) (r s : R κs) (v w : E κs) → contract κs a r v → contract κs a s w → (r ≡ s) × (part κs v ≡ part κs w)

@@ -34,7 +34,7 @@ module _ {frozen : ℕ} {value to : ℕ → ℕ} {i sum placed : ℕ} (before : 
       (record {
         moved = rw free (ap₂ (λ (x y : ℕ). x + y) (before .moved) (ap₂ (λ (x y : ℕ). x * 2 ^ y) isBit isPlace));
         counted = rw free (ap (λ (x : ℕ). x + 1) (before .counted));
-        room = rw (next, isPlace) (bit-above sum b (to i) (before .room) small)
+        room = rw (next, isPlace) (bit-above sum b (to i) (before .room) small);
       })
 
   -- past a frozen index
@@ -45,7 +45,7 @@ module _ {frozen : ℕ} {value to : ℕ → ℕ} {i sum placed : ℕ} (before : 
       (record {
         moved = rw shut (before .moved ∙ sym (add-zero _));
         counted = rw shut (before .counted ∙ sym (add-zero _));
-        room = lt-of-lt-of-le (before .room) (pow-mono later)
+        room = lt-of-lt-of-le (before .room) (pow-mono later);
       })
 
   -- a bit moved to a place below 64 fits a word

@@ -1,8 +1,9 @@
 // Words of up to 64 bits: a bit, a one put in, sums modulo 2, comparison and counts; below, the matrix map and messages.
 // Every public function is total, and every contract reads a word through `wordOf`. No other crate does bit arithmetic on a word.
+pub mod count;
 pub mod matrix;
 pub mod message;
-pub mod count;
+mod table;
 
 ghost use mathlib.Core.Path.{_≡_};
 ghost use Prim.Native.Nat.{_^_};

@@ -3,9 +3,9 @@ ghost use mathlib.Core.Path.{_≡_};
 ghost use Prim.Native.Nat.{_*_, _^_, _<_, _≤_};
 ghost use Rattle.rules.specs.Word as rules;
 ghost use Rattle.word.specs.Words.{wordOf, sizeOf};
+use crate::Word;
 use crate::bit;
 use crate::slots;
-use crate::Word;
 
 // A bit moved to index i.
 fn moved(b: u32, i: usize) -> u64

@@ -36,9 +36,11 @@ returns-3 : tie.Need-returns-3
 unfolding encodeAnswer
 returns-3 c =
     let right = sym (c .before .before .before .before .before .before .before .wrong-size .ensures) ∙ c .before .before .before .before .before .before .if1 .left in
-    rw
-    (right, mask-test _ right _ _ _ (c .before .before .before .before .before .slots .ensures) (c .before .before .before .before .reaches .ensures) ∙ c .before .before .before .if2 .left,
-    message-test _ right _ _ _ _ (c .before .before .unfrozen .ensures) (c .before .reaches2 .ensures) ∙ c .if3 .taken)
+    rw (
+      right,
+      mask-test _ right _ _ _ (c .before .before .before .before .before .slots .ensures) (c .before .before .before .before .reaches .ensures) ∙ c .before .before .before .if2 .left,
+      message-test _ right _ _ _ _ (c .before .before .unfrozen .ensures) (c .before .reaches2 .ensures) ∙ c .if3 .taken,
+    )
 
 spread-requires : tie.Need-spread-requires
 spread-requires c κs = search needs
@@ -50,9 +52,11 @@ returns-4 : tie.Need-returns-4
 unfolding encodeAnswer
 returns-4 c =
     let right = sym (c .before .before .before .before .before .before .before .before .before .wrong-size .ensures) ∙ c .before .before .before .before .before .before .before .before .if1 .left in
-    rw
-    (right, mask-test _ right _ _ _ (c .before .before .before .before .before .before .before .slots .ensures) (c .before .before .before .before .before .before .reaches .ensures) ∙ c .before .before .before .before .before .if2 .left,
-    message-test _ right _ _ _ _ (c .before .before .before .before .unfrozen .ensures) (c .before .before .before .reaches2 .ensures) ∙ c .before .before .if3 .left)
+    rw (
+      right,
+      mask-test _ right _ _ _ (c .before .before .before .before .before .before .before .slots .ensures) (c .before .before .before .before .before .before .reaches .ensures) ∙ c .before .before .before .before .before .if2 .left,
+      message-test _ right _ _ _ _ (c .before .before .before .before .unfrozen .ensures) (c .before .before .before .reaches2 .ensures) ∙ c .before .before .if3 .left,
+    )
     (ap done (words-right _ right _ _ _ _ (c .before .spread .ensures) (c .map .ensures)))
 
 pub encode-spec : {M : Type 1} → statement M

@@ -43,20 +43,21 @@ loop-again : tie.Need-loop-again Inv-loop μ-loop
 unfolding leastBelow
 loop-again c =
     let before = c .before .before .before .loop .inv .1 in
-    let read = c .before .bit .ensures in
-    (omega arith,
-    rw add-one
-    (⊎-elim
-    (λ w.
-      rw (eq-eqb _ _ (sym read ∙ w .0 .taken))
-      (ap fewestOf (w .2) ∙ w .1 .ensures ∙ ap (λ (f : Option ℕ). some (orLess (ones (c .before .before .before .loop .i)) f)) before))
-    (λ w. rw (ne-eqb _ _ (λ e. w .0 .left (read ∙ e))) (ap fewestOf (w .1) ∙ before))
-    (c .if1 .came)))
+    let read = c .before .bit .ensures in (
+      omega arith,
+      rw add-one
+          (⊎-elim
+          (λ w.
+          rw (eq-eqb _ _ (sym read ∙ w .0 .taken))
+          (ap fewestOf (w .2) ∙ w .1 .ensures ∙ ap (λ (f : Option ℕ). some (orLess (ones (c .before .before .before .loop .i)) f)) before))
+          (λ w. rw (ne-eqb _ _ (λ e. w .0 .left (read ∙ e))) (ap fewestOf (w .1) ∙ before))
+          (c .if1 .came)),
+    )
 
 returns : tie.Need-returns Inv-loop μ-loop
 returns c =
     let last : c .before .loop .i ≡ 2 ^ sizeOf (c .before .before .before .args .n) =
-      omega (arith, c .before .before .slots .ensures)
+    omega (arith, c .before .before .slots .ensures)
     in
     c .before .loop .inv .1 ∙ ap (λ (m : ℕ). leastBelow m (unfrozen (c .before .before .before .args .frozen)) ones) last
 

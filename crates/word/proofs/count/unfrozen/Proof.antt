@@ -22,15 +22,23 @@ cast-result c = search needs
 
 sub-result : tie.Need-sub-result
 sub-result c =
-    omega
-    (arith, c .before .before .slots .ensures, c .ones .ensures, ap ones (c .before .slot-bits .ensures),
-    bits-and-ones (sizeOf (c .before .before .before .args .n)) (c .before .before .before .args .frozen))
+    omega (
+      arith,
+      c .before .before .slots .ensures,
+      c .ones .ensures,
+      ap ones (c .before .slot-bits .ensures),
+      bits-and-ones (sizeOf (c .before .before .before .args .n)) (c .before .before .before .args .frozen),
+    )
 
 returns : tie.Need-returns
 returns c =
-    omega
-    (arith, c .before .before .slots .ensures, c .ones .ensures, ap ones (c .before .slot-bits .ensures),
-    bits-and-ones (sizeOf (c .before .before .before .args .n)) (c .before .before .before .args .frozen))
+    omega (
+      arith,
+      c .before .before .slots .ensures,
+      c .ones .ensures,
+      ap ones (c .before .slot-bits .ensures),
+      bits-and-ones (sizeOf (c .before .before .before .args .n)) (c .before .before .before .args .frozen),
+    )
 
 pub unfrozen-spec : {M : Type 1} → statement M
 unfrozen-spec =

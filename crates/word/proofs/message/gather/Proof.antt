@@ -42,10 +42,10 @@ add-message : tie.Need-add-message Inv-loop μ-loop
 add-message c =
     record {
       fits =
-        rw (c .moved .ensures)
-        (moved-fits (c .before .before .before .before .before .loop .inv .2) _ _ (c .before .before .before .before .before .loop .inv .2 .counted)
-        (rw (c .before .bit2 .ensures) (bit-lt-two _ _))
-        (omega (arith, slots-le (c .before .before .before .before .before .before .before .args .n))))
+          rw (c .moved .ensures)
+          (moved-fits (c .before .before .before .before .before .loop .inv .2) _ _ (c .before .before .before .before .before .loop .inv .2 .counted)
+          (rw (c .before .bit2 .ensures) (bit-lt-two _ _))
+          (omega (arith, slots-le (c .before .before .before .before .before .before .before .args .n))));
     }
 
 add-place : tie.Need-add-place Inv-loop μ-loop
@@ -63,20 +63,22 @@ loop-again c =
     let read = c .before .bit .ensures in
     ⊎-elim
     (λ w.
-      let free = eq-eqb _ _ (sym read ∙ w .0 .taken) in
-      (omega arith, omega arith,
+    let free = eq-eqb _ _ (sym read ∙ w .0 .taken) in (
+      omega arith,
+      omega arith,
       rw (w .3, w .4, w .2 .ensures)
-      (moved-unfrozen before _ _ (w .1 .ensures) (before .counted) (rw (w .1 .ensures) (bit-lt-two _ _)) free (count-passing (unfrozen _) _ free))))
+          (moved-unfrozen before _ _ (w .1 .ensures) (before .counted) (rw (w .1 .ensures) (bit-lt-two _ _)) free (count-passing (unfrozen _) _ free)),
+    ))
     (λ w.
-      let shut = ne-eqb _ _ (λ e. w .0 .left (read ∙ e)) in
-      (omega arith, omega arith, rw (w .1, w .2) (moved-frozen before shut (le-of-eq (sym (count-failing (unfrozen _) _ shut))))))
+    let shut = ne-eqb _ _ (λ e. w .0 .left (read ∙ e)) in
+    (omega arith, omega arith, rw (w .1, w .2) (moved-frozen before shut (le-of-eq (sym (count-failing (unfrozen _) _ shut))))))
     (c .if1 .came)
 
 returns : tie.Need-returns Inv-loop μ-loop
 unfolding gather
 returns c =
     let last : c .before .loop .i ≡ 2 ^ sizeOf (c .before .before .before .args .n) =
-      omega (arith, c .before .before .slots .ensures)
+    omega (arith, c .before .before .slots .ensures)
     in
     c .before .loop .inv .2 .moved ∙ ap (movedBelow _ _ _) last
 

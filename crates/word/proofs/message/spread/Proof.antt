@@ -40,10 +40,10 @@ add-d : tie.Need-add-d Inv-loop μ-loop
 add-d c =
     record {
       fits =
-        rw (c .moved .ensures)
-        (moved-fits (c .before .before .before .before .before .loop .inv .2) _ _ (refl)
-        (rw (c .before .bit2 .ensures) (bit-lt-two _ _))
-        (omega (arith, slots-le (c .before .before .before .before .before .before .before .args .n))))
+          rw (c .moved .ensures)
+          (moved-fits (c .before .before .before .before .before .loop .inv .2) _ _ (refl)
+          (rw (c .before .bit2 .ensures) (bit-lt-two _ _))
+          (omega (arith, slots-le (c .before .before .before .before .before .before .before .args .n))));
     }
 
 add-place : tie.Need-add-place Inv-loop μ-loop
@@ -61,20 +61,22 @@ loop-again c =
     let read = c .before .bit .ensures in
     ⊎-elim
     (λ w.
-      let free = eq-eqb _ _ (sym read ∙ w .0 .taken) in
-      (omega arith, omega arith,
+    let free = eq-eqb _ _ (sym read ∙ w .0 .taken) in (
+      omega arith,
+      omega arith,
       rw (w .3, w .4, w .2 .ensures)
-      (moved-unfrozen before _ _ (w .1 .ensures ∙ ap (bit (c .before .before .before .before .before .args .message)) (before .counted)) refl (rw (w .1 .ensures) (bit-lt-two _ _)) free refl)))
+          (moved-unfrozen before _ _ (w .1 .ensures ∙ ap (bit (c .before .before .before .before .before .args .message)) (before .counted)) refl (rw (w .1 .ensures) (bit-lt-two _ _)) free refl),
+    ))
     (λ w.
-      let shut = ne-eqb _ _ (λ e. w .0 .left (read ∙ e)) in
-      (omega arith, omega arith, rw (w .1, w .2) (moved-frozen before shut (omega arith))))
+    let shut = ne-eqb _ _ (λ e. w .0 .left (read ∙ e)) in
+    (omega arith, omega arith, rw (w .1, w .2) (moved-frozen before shut (omega arith))))
     (c .if1 .came)
 
 returns : tie.Need-returns Inv-loop μ-loop
 unfolding spread
 returns c =
     let last : c .before .loop .i ≡ 2 ^ sizeOf (c .before .before .before .args .n) =
-      omega (arith, c .before .before .slots .ensures)
+    omega (arith, c .before .before .slots .ensures)
     in
     c .before .loop .inv .2 .moved ∙ ap (movedBelow _ _ _) last
 

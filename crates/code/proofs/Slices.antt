@@ -1,0 +1,52 @@
+-- Encoding to levels beside encoding: past 1 and 2 the answer is that of encoding, and the slice follows the answer.
+use Prim.Native.Nat.{ℕ, _^_}
+use mathlib.Core.Path.{_≡_, sym, ap}
+use mathlib.Core.Bool.{true, false}
+use mathlib.Core.List.{List, [], _∷_}
+use mathlib.Core.Option.{Option, none, some}
+use lib.IntN.{ℤ}
+use lib.ListN.{length}
+use borrow.Author.Tests.{eq-eqb, ne-eqb}
+use Rattle.rules.specs.Level.{idealLevels}
+use Rattle.rules.specs.Refusals.{Refusal, Answer, refused, done, answer, isWrongSize, wrongSize, wrongLength, wrongMask, wrongMessage}
+use Rattle.rules.specs.Answers.{Encoded, encoded, encodeAnswer, encodeLevelsAnswer, encodeLevelsLeft}
+
+-- an answer that is a success is the one that the order leads to
+answer-done : {A : Type 0} (order : List (Option Refusal)) (success given : A) → done given ≡ answer order success → given ≡ success
+answer-done [] success given e = cc
+answer-done (none ∷ order) success given e = answer-done order success given e
+answer-done (some r ∷ order) success given e = cc
+
+module _ (n : ℕ) (slice : List ℤ) (mask message : ℕ) where
+  pub levels-size : isWrongSize n ≡ true → refused (record { number = 1; values = [] }) ≡ encodeLevelsAnswer n slice mask message
+  unfolding encodeLevelsAnswer
+  levels-size wrong = rw wrong
+
+  pub levels-length : isWrongSize n ≡ false → (length slice ≡ 2 ^ n → ⊥)
+      → refused (record { number = 2; values = [] }) ≡ encodeLevelsAnswer n slice mask message
+  unfolding encodeLevelsAnswer
+  levels-length right other = rw (right, ne-eqb _ _ other)
+
+  -- of a right n and a slice of N, the answer of encoding
+  pub levels-answer : isWrongSize n ≡ false → length slice ≡ 2 ^ n
+      → encodeAnswer n mask message ≡ encodeLevelsAnswer n slice mask message
+  unfolding encodeLevelsAnswer encodeAnswer
+  levels-answer right whole = rw (right, eq-eqb _ _ whole)
+
+  -- a refusal leaves the slice as it was
+  pub left-refused : (r : Refusal) → refused r ≡ encodeLevelsAnswer n slice mask message
+      → (refused r ≡ encodeLevelsAnswer n slice mask message) × (slice ≡ encodeLevelsLeft n slice mask message)
+  unfolding encodeLevelsLeft
+  left-refused r e = (e, rw (sym e))
+
+  -- a success leaves the ideal levels of its codeword
+  pub left-done : (d x : ℕ) → done (record { d = d; x = x }) ≡ encodeLevelsAnswer n slice mask message
+      → (done (record { d = d; x = x }) ≡ encodeLevelsAnswer n slice mask message) × (idealLevels n x ≡ encodeLevelsLeft n slice mask message)
+  unfolding encodeLevelsAnswer encodeLevelsLeft
+  left-done d x e = (
+    e,
+    rw (sym e)
+        (ap (λ (w : Encoded). idealLevels n (w .x))
+        (answer-done (wrongSize n ∷ wrongLength n slice ∷ wrongMask n mask ∷ wrongMessage n mask message ∷ []) (encoded n mask message)
+        (record { d = d; x = x }) e)),
+  )

@@ -1,0 +1,5 @@
+mod Clip
+mod Fields
+mod Scaled
+mod Sizes
+mod Taking

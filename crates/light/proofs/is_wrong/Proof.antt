@@ -1,0 +1,32 @@
+-- `light::is_wrong` meets its contract.
+use Prim.Native.Nat.{ℕ, _^_}
+use mathlib.Core.Path.{sym, ap, _∙_}
+use mathlib.Core.Bool.{Bool, _||_}
+use native.Mathlib.Omega.{arith}
+use borrow.Author.Needs.{needs}
+use lib.Dec.{ltb}
+use Rattle.light.proofs.Sizes.{right-size, shifted}
+use Rattle.light.proofs.is_wrong.Statement.{statement}
+use Rattle.light.proofs.is_wrong.Tie as tie
+
+is-wrong-size-requires : tie.Need-is-wrong-size-requires
+is-wrong-size-requires c κs = search needs
+
+returns : tie.Need-returns
+returns c =
+    ap (λ (t : Bool). t || ltb (2 ^ (c .before .before .args .n)) (c .before .before .args .filled))
+    (sym (c .if1 .taken) ∙ c .before .is-wrong-size .ensures)
+
+shl-result : tie.Need-shl-result
+shl-result c =
+    omega (arith, right-size (c .before .before .args .n) (sym (c .before .is-wrong-size .ensures) ∙ c .if1 .left))
+
+returns-2 : tie.Need-returns-2
+returns-2 c =
+    let n = c .before .before .args .n in
+    let e = sym (c .if1 .left) ∙ c .before .is-wrong-size .ensures in
+    ap (λ (k : ℕ). ltb k (c .before .before .args .filled)) (shifted n (right-size n (sym e)))
+    ∙ ap (λ (t : Bool). t || ltb (2 ^ n) (c .before .before .args .filled)) e
+
+pub is-wrong-spec : {M : Type 1} → statement M
+is-wrong-spec = tie.close (tie.spec is-wrong-size-requires returns shl-result returns-2)

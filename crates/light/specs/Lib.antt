@@ -1,0 +1,5 @@
+pub mod Values
+pub mod Steps
+pub mod NearestLaw
+pub mod AssemblingLaw
+pub mod Unique

@@ -1,0 +1,64 @@
+-- No second answer: of each public function, two results that meet its contract are equal.
+-- The contracts are those of src/ themselves, as the check reads them: a weaker one has no such theorem.
+use Rattle.laws.specs.Answers.{OneResult, one-answer}
+use Rattle.word.specs.Unique.{word-injective, fewest-injective}
+use Rattle.word.proofs.wrong_size.Reads as wrong-size
+use Rattle.word.proofs.slots.Reads as slots
+use Rattle.word.proofs.bit.Reads as bit
+use Rattle.word.proofs.put.Reads as put
+use Rattle.word.proofs.xor.Reads as xor
+use Rattle.word.proofs.less.Reads as less
+use Rattle.word.proofs.matrix.map_byte.Reads as map-byte
+use Rattle.word.proofs.matrix.map.Reads as map
+use Rattle.word.proofs.message.spread.Reads as spread
+use Rattle.word.proofs.message.gather.Reads as gather
+use Rattle.word.proofs.count.ones.Reads as ones
+use Rattle.word.proofs.count.folding_size.Reads as folding-size
+use Rattle.word.proofs.count.reaches.Reads as reaches
+use Rattle.word.proofs.count.unfrozen.Reads as unfrozen
+use Rattle.word.proofs.count.fewest_ones.Reads as fewest-ones
+
+pub wrong-size-unique : OneResult wrong-size.Learnt
+wrong-size-unique κs a r s v w p q = one-answer p q
+
+pub slots-unique : OneResult slots.Learnt
+slots-unique κs a r s v w p q = one-answer p q
+
+pub bit-unique : OneResult bit.Learnt
+bit-unique κs a r s v w p q = one-answer p q
+
+pub put-unique : OneResult put.Learnt
+put-unique κs a r s v w p q = word-injective r s (one-answer p q)
+
+pub xor-unique : OneResult xor.Learnt
+xor-unique κs a r s v w p q = word-injective r s (one-answer p q)
+
+pub less-unique : OneResult less.Learnt
+less-unique κs a r s v w p q = one-answer p q
+
+pub map-byte-unique : OneResult map-byte.Learnt
+map-byte-unique κs a r s v w p q = one-answer p q
+
+pub map-unique : OneResult map.Learnt
+map-unique κs a r s v w p q = word-injective r s (one-answer p q)
+
+pub spread-unique : OneResult spread.Learnt
+spread-unique κs a r s v w p q = word-injective r s (one-answer p q)
+
+pub gather-unique : OneResult gather.Learnt
+gather-unique κs a r s v w p q = word-injective r s (one-answer p q)
+
+pub ones-unique : OneResult ones.Learnt
+ones-unique κs a r s v w p q = one-answer p q
+
+pub folding-size-unique : OneResult folding-size.Learnt
+folding-size-unique κs a r s v w p q = one-answer p q
+
+pub reaches-unique : OneResult reaches.Learnt
+reaches-unique κs a r s v w p q = one-answer p q
+
+pub unfrozen-unique : OneResult unfrozen.Learnt
+unfrozen-unique κs a r s v w p q = one-answer p q
+
+pub fewest-ones-unique : OneResult fewest-ones.Learnt
+fewest-ones-unique κs a r s v w p q = fewest-injective r s (one-answer p q)
