@@ -1,37 +1,26 @@
 -- What a passed or failed test of the code says of the rules' tests at the n that was handed in.
-use Prim.Native.Nat.{ℕ, _*_, _%_, _^_, _≤_, _<_, min}
+use Prim.Native.Nat.{ℕ, _*_, _%_, _^_, _≤_}
 use mathlib.Core.Option.{some}
 use mathlib.Core.Path.{_≡_, sym, _∙_, ap}
-use mathlib.Core.Bool.{Bool, true, false, _||_}
+use mathlib.Core.Bool.{Bool, false}
 use native.Mathlib.Omega.{arith}
 use lib.Count.{ones, ones-le}
-use lib.Dec.{leb, ltb}
+use lib.Dec.{leb}
 use lib.Pow.{shl-exact}
-use borrow.Author.Tests.{ltb-false}
 use Rattle.rules.specs.Refusals.{isWrongSize}
 use Rattle.rules.specs.Word.{unfrozen, messageBits, spread, codeword}
 use Rattle.rules.specs.Answers.{Encoded, encoded}
 use Rattle.rules.specs.Guard.{fewestOnes}
+use Rattle.laws.specs.Sizes.{size-le, own-size}
 use Rattle.laws.specs.Matrix.{codeword-longer}
 use Rattle.laws.specs.Message.{spread-lt}
 use Rattle.laws.specs.LeastBelow.{least-some-at}
 use Rattle.word.specs.Words.{sizeOf}
 
-or-false : (s t : Bool) → (s || t) ≡ false → (s ≡ false) × (t ≡ false)
-or-false true t e = (e, absurd (mathlib.Core.Bool.true≢false e))
-or-false false t e = (mathlib.Core.Path.refl, e)
-
--- a size that is not wrong is at most the largest, and so its own
-pub size-le : (n : ℕ) → isWrongSize n ≡ false → n ≤ 6
-size-le n e = ltb-false 6 n (or-false (ltb n 1) (ltb 6 n) e .1)
-
-pub right-size : (n : ℕ) → isWrongSize n ≡ false → sizeOf n ≡ n
-right-size n e = omega (arith, size-le n e)
-
 module _ (n : ℕ) (right : isWrongSize n ≡ false) where
   -- the slots counted at the size are N
   pub slots-right : (slots : ℕ) → slots ≡ 2 ^ sizeOf n → slots ≡ 2 ^ n
-  slots-right slots count = count ∙ ap (λ (k : ℕ). 2 ^ k) (right-size n right)
+  slots-right slots count = count ∙ ap (λ (k : ℕ). 2 ^ k) (own-size n right)
 
   -- a test of the mask against the slots is the rules' test
   pub mask-test : (mask slots : ℕ) (t : Bool) → slots ≡ 2 ^ sizeOf n → t ≡ leb (2 ^ slots) mask → leb (2 ^ (2 ^ n)) mask ≡ t
@@ -41,13 +30,13 @@ module _ (n : ℕ) (right : isWrongSize n ≡ false) where
   pub message-test : (mask bits message : ℕ) (t : Bool) → bits ≡ messageBits (sizeOf n) mask → t ≡ leb (2 ^ bits) message
       → leb (2 ^ messageBits n mask) message ≡ t
   message-test mask bits message t count test =
-      sym (test ∙ ap (λ (m : ℕ). leb (2 ^ m) message) (count ∙ ap (λ (k : ℕ). messageBits k mask) (right-size n right)))
+      sym (test ∙ ap (λ (m : ℕ). leb (2 ^ m) message) (count ∙ ap (λ (k : ℕ). messageBits k mask) (own-size n right)))
 
   -- the words of a message, made at the size and mapped at the largest n, are the rules'
   pub words-right : (mask message d x : ℕ) → d ≡ spread (sizeOf n) mask message → x ≡ codeword 6 d
       → _≡_ {A = Encoded} (record { d = d; x = x }) (encoded n mask message)
   words-right mask message d x isWord isCode =
-      let word : d ≡ spread n mask message = isWord ∙ ap (λ (k : ℕ). spread k mask message) (right-size n right) in
+      let word : d ≡ spread n mask message = isWord ∙ ap (λ (k : ℕ). spread k mask message) (own-size n right) in
       let code : x ≡ codeword n (spread n mask message) =
       isCode ∙ ap (codeword 6) word ∙ codeword-longer n 6 _ (size-le n right) (spread-lt n mask message)
       in

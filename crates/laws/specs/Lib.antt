@@ -36,3 +36,4 @@ pub mod LittleEndian
 pub mod Digits
 pub mod Stores
 pub mod Texts
+pub mod Sizes

@@ -1,17 +1,14 @@
 -- The order of reading, 13, 1, 12, 3, 4, 5, from each of its tests on, and what an answer has to be once they are known.
-use Prim.Native.Nat.{ℕ, _^_, _≤_, min}
+use Prim.Native.Nat.{ℕ, _^_}
 use mathlib.Core.Path.{_≡_, refl, ap}
-use mathlib.Core.Bool.{Bool, true, false, true≢false, not, _||_}
+use mathlib.Core.Bool.{not}
 use mathlib.Core.Option.{Option}
 use mathlib.Core.List.{List, [], _∷_}
-use native.Mathlib.Omega.{arith}
 use lib.Count.{ones}
 use lib.Dec.{leb, ltb}
 use lib.ListN.{length}
-use borrow.Author.Tests.{ltb-false}
-use Rattle.rules.specs.Refusals.{Refusal, Answer, refused, done, answer, left, refuse, largest, isWrongSize}
+use Rattle.rules.specs.Refusals.{Refusal, Answer, refused, done, answer, left, refuse, isWrongSize}
 use Rattle.rules.specs.Record.{Fields, numberAt, recordBytes, fieldsOf, notZero, readAnswer}
-use Rattle.word.specs.Words.{sizeOf}
 use Rattle.record.specs.Reading.{noFields, zerosAt}
 
 -- the order's tests, by what they are of
@@ -35,14 +32,6 @@ from12 bytes = refuse 12 (not (zerosAt bytes (2 ^ sizeAt bytes))) ∷ from3 byte
 
 abbrev pub from1 : List ℕ → List (Option Refusal)
 from1 bytes = refuse 1 (isWrongSize (sizeAt bytes)) ∷ from12 bytes
-
--- an n that is not wrong is its own size
-pub right-size : (n : ℕ) → isWrongSize n ≡ false → sizeOf n ≡ n
-right-size n e = go (ltb n 1) (ltb largest n) e (ltb-false largest n)
-  where
-    go : (s t : Bool) → (s || t) ≡ false → (t ≡ false → n ≤ largest) → min n largest ≡ n
-    go true t e le = absurd (true≢false e)
-    go false t e le = omega (arith, le e)
 
 module _ (bytes : List ℕ) where
   pub from-13 : readAnswer bytes ≡ answer (refuse 13 (ltb (length bytes) recordBytes) ∷ from1 bytes) (fieldsOf bytes)
