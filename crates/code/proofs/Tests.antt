@@ -16,6 +16,7 @@ use Rattle.laws.specs.Matrix.{codeword-longer}
 use Rattle.laws.specs.Message.{spread-lt}
 use Rattle.laws.specs.LeastBelow.{least-some-at}
 use Rattle.word.specs.Words.{sizeOf}
+<<<<<<< HEAD
 
 module _ (n : ℕ) (right : isWrongSize n ≡ false) where
   -- the slots counted at the size are N
@@ -26,6 +27,11 @@ module _ (n : ℕ) (right : isWrongSize n ≡ false) where
   pub mask-test : (mask slots : ℕ) (t : Bool) → slots ≡ 2 ^ sizeOf n → t ≡ leb (2 ^ slots) mask → leb (2 ^ (2 ^ n)) mask ≡ t
   mask-test mask slots t count test = sym (test ∙ ap (λ (m : ℕ). leb (2 ^ m) mask) (slots-right slots count))
 
+=======
+use Rattle.word.specs.Sizes.{size-le, right-size}
+
+module _ (n : ℕ) (right : isWrongSize n ≡ false) where
+>>>>>>> 9ab6fc023876b427cf0188f880280da2b3ace857
   -- a test of the message against K is the rules' test
   pub message-test : (mask bits message : ℕ) (t : Bool) → bits ≡ messageBits (sizeOf n) mask → t ≡ leb (2 ^ bits) message
       → leb (2 ^ messageBits n mask) message ≡ t

@@ -26,7 +26,8 @@ one-filling mask (i ∷ is) t = go (unfrozen mask i) t (one-filling mask is)
     go true t below = absurd (true≢false t)
     go false t below = below t
 
-twice : (mask i : ℕ) (is : List ℕ) → length (fillings mask is ++ map (λ f. f + 2 ^ i) (fillings mask is)) ≡ length (fillings mask is) + length (fillings mask is)
+-- an unfrozen index more: twice as many
+pub twice : (mask i : ℕ) (is : List ℕ) → length (fillings mask is ++ map (λ f. f + 2 ^ i) (fillings mask is)) ≡ length (fillings mask is) + length (fillings mask is)
 twice mask i is = length-append (fillings mask is) _ ∙ ap (λ (x : ℕ). length (fillings mask is) + x) (length-map (fillings mask is) _)
 
 -- a group has a filling

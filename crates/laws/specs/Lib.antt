@@ -3,6 +3,7 @@ pub mod Sums
 pub mod Bits
 pub mod SumsMore
 pub mod SortedLists
+pub mod SortedRows
 pub mod BranchAndBound
 pub mod Allowance
 pub mod Groups
@@ -37,3 +38,14 @@ pub mod Digits
 pub mod Stores
 pub mod Texts
 pub mod Sizes
+pub mod Seats
+pub mod SeatWords
+pub mod Placed
+pub mod Deposits
+pub mod SeatGroups
+pub mod Blocks
+pub mod SeatedRow
+pub mod SeatedDown
+pub mod SeatedFillings
+pub mod SeatedWalk
+pub mod FillingNumber

@@ -4,6 +4,8 @@ use mathlib.Core.Path.{_≡_, refl, sym, _∙_, ap, ap₂}
 use mathlib.Core.Bool.{Bool, true, false, cond}
 use mathlib.Core.List.{List, [], _∷_, _++_, map, List·Memᴰ, List·Memᴰ·head, List·Memᴰ·tail, List·Memᴰ·not-nil, List·Memᴰ·cases-cons, List·Memᴰ·append-cases, List·Memᴰ·eq-of-singleton}
 use mathlib.Core.Logic.{⊎-elim}
+use native.Mathlib.Nat.{not-suc-le-zero, le-of-suc-le-suc}
+use lib.ListN.{length, getD}
 use Rattle.rules.specs.Below.{listBelow}
 use Rattle.laws.specs.Sums.{mem-at}
 
@@ -33,7 +35,22 @@ rising-map {A} {B} R S f (x ∷ xs) h r = (
   rising-map R S f xs (λ a b i j. h a b (List·Memᴰ·tail i) (List·Memᴰ·tail j)) (r .1),
 )
 
+-- what stands at an index of a list is a member
+pub mem-getD : {A : Type 0} (xs : List A) (i : ℕ) (d : A) → i < length xs → List·Memᴰ (getD xs i d) xs
+mem-getD [] i d l = absurd (not-suc-le-zero l)
+mem-getD (x ∷ xs) zero d l = List·Memᴰ·head refl
+mem-getD (x ∷ xs) (suc i) d l = List·Memᴰ·tail (mem-getD xs i d (le-of-suc-le-suc l))
+
 module _ {A : Type 0} (R : A → A → Type 0) where
+  -- elements of a rising list, by their indices
+  pub rising-at : (xs : List A) (d : A) → Rising R xs → (i j : ℕ) → i < j → j < length xs → R (getD xs i d) (getD xs j d)
+  unfolding Rising
+  rising-at [] d r i j l h = absurd (not-suc-le-zero h)
+  rising-at (x ∷ xs) d r zero zero l h = absurd (not-suc-le-zero l)
+  rising-at (x ∷ xs) d r zero (suc j) l h = r .0 (getD xs j d) (mem-getD xs j d (le-of-suc-le-suc h))
+  rising-at (x ∷ xs) d r (suc i) zero l h = absurd (not-suc-le-zero l)
+  rising-at (x ∷ xs) d r (suc i) (suc j) l h = rising-at xs d (r .1) i j (le-of-suc-le-suc l) (le-of-suc-le-suc h)
+
   -- two rising lists, each element of the first before every one of the second
   pub rising-append : (xs ys : List A) → Rising R xs → Rising R ys → ((a b : A) → List·Memᴰ a xs → List·Memᴰ b ys → R a b) → Rising R (xs ++ ys)
   unfolding Rising

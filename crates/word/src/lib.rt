@@ -1,5 +1,6 @@
 // Words of up to 64 bits: a bit, a one put in, sums modulo 2, comparison and counts; below, the matrix map and messages.
 // Every public function is total, and every contract reads a word through `wordOf`. No other crate does bit arithmetic on a word.
+pub mod block;
 pub mod count;
 pub mod matrix;
 pub mod message;

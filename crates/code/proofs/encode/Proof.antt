@@ -2,7 +2,8 @@
 use mathlib.Core.Path.{_≡_, sym, _∙_, ap}
 use Rattle.rules.specs.Refusals.{done}
 use Rattle.rules.specs.Answers.{encodeAnswer}
-use Rattle.code.proofs.Tests.{mask-test, message-test, words-right}
+use Rattle.word.specs.Sizes.{mask-test}
+use Rattle.code.proofs.Tests.{message-test, words-right}
 use borrow.Author.Needs.{needs}
 use Rattle.code.proofs.encode.Statement.{statement}
 use Rattle.code.proofs.encode.Tie as tie

@@ -6,8 +6,13 @@ use Rattle.rules.specs.Guard.{fewestOnes, guardOf, guardFor}
 use Rattle.rules.specs.Refusals.{done}
 use Rattle.rules.specs.Answers.{guardAnswer}
 use Rattle.word.specs.Words.{sizeOf, fewestOf}
+<<<<<<< HEAD
 use Rattle.laws.specs.Sizes.{own-size}
 use Rattle.code.proofs.Tests.{mask-test, fewest-small, guard-fits}
+=======
+use Rattle.word.specs.Sizes.{right-size, mask-test}
+use Rattle.code.proofs.Tests.{fewest-small, guard-fits}
+>>>>>>> 9ab6fc023876b427cf0188f880280da2b3ace857
 use borrow.Author.Needs.{needs}
 use Rattle.code.proofs.Code.guard.Statement.{statement}
 use Rattle.code.proofs.Code.guard.Tie as tie

@@ -1,7 +1,7 @@
 -- `code::Code::new` meets its contract.
 use mathlib.Core.Path.{_≡_, sym, _∙_}
 use Rattle.code.specs.Made.{madeAnswer}
-use Rattle.code.proofs.Tests.{mask-test}
+use Rattle.word.specs.Sizes.{mask-test}
 use borrow.Author.Needs.{needs}
 use Rattle.code.proofs.Code.new.Statement.{statement}
 use Rattle.code.proofs.Code.new.Tie as tie

@@ -1,7 +1,7 @@
 -- `code::levels::encode_levels` meets its contract.
 use mathlib.Core.Path.{sym, _∙_, ap}
 use Rattle.code.specs.Reading.{encodedOf}
-use Rattle.code.proofs.Tests.{slots-right}
+use Rattle.word.specs.Sizes.{slots-right}
 use Rattle.code.proofs.Slices.{levels-size, levels-length, levels-answer, left-refused, left-done}
 use borrow.Author.Needs.{needs}
 use Rattle.code.proofs.levels.encode_levels.Statement.{statement}

@@ -1,0 +1,77 @@
+-- A number's bits, lowest first, put at the places below m that pass a test.
+use Prim.Native.Nat.{ℕ, suc, _+_, _*_, _^_, _<_}
+use mathlib.Core.Path.{_≡_, refl, sym, _∙_}
+use mathlib.Core.Bool.{Bool, true, false, cond}
+use native.Mathlib.Nat.{one-mul}
+use native.Mathlib.Decide.{decLt}
+use native.Mathlib.Omega.{arith}
+use Rattle.rules.specs.Below.{sumBelow, countBelow}
+use Rattle.rules.specs.Word.{bit}
+use Rattle.laws.specs.Bits.{bit-lt-two, bit-beyond, bit-within, bit-low, bit-ext-below, word-lt, word-bit}
+use Rattle.laws.specs.Highest.{Highest, highest-lt, highest-of}
+use Rattle.laws.specs.Places.{count-rises, count-onto}
+
+-- the bit at place i
+abbrev pub depositBit : (ℕ → Bool) → ℕ → ℕ → ℕ
+depositBit test q i = cond (test i) (bit q (countBelow i test)) 0
+
+-- the word of those bits
+unfoldable pub deposit : (ℕ → Bool) → ℕ → ℕ → ℕ
+deposit test m q = sumBelow m (λ i. depositBit test q i * 2 ^ i)
+
+module _ (test : ℕ → Bool) (m : ℕ) where
+  bit-lt : (q i : ℕ) → depositBit test q i < 2
+  bit-lt q i = go (test i)
+    where
+      go : (t : Bool) → cond t (bit q (countBelow i test)) 0 < 2
+      go true = bit-lt-two q (countBelow i test)
+      go false = omega arith
+
+  -- it has m bits
+  pub deposit-lt : (q : ℕ) → deposit test m q < 2 ^ m
+  unfolding deposit
+  deposit-lt q = word-lt m (depositBit test q) (λ i l. bit-lt q i)
+
+  -- its bits
+  pub deposit-bit : (q i : ℕ) → i < m → bit (deposit test m q) i ≡ depositBit test q i
+  unfolding deposit
+  deposit-bit q i l = word-bit m (depositBit test q) (λ j k. bit-lt q j) i l
+
+  same-bit : (q r i : ℕ) → (test i ≡ true → bit q (countBelow i test) ≡ bit r (countBelow i test))
+      → bit (deposit test m q) i ≡ bit (deposit test m r) i
+  same-bit q r i same = go (decLt i m) (test i) refl
+    where
+      go : Dec (i < m) → (t : Bool) → test i ≡ t → bit (deposit test m q) i ≡ bit (deposit test m r) i
+      go (yes l) true t = deposit-bit q i l ∙ rw t (same t) ∙ sym (deposit-bit r i l)
+      go (yes l) false t = deposit-bit q i l ∙ rw t refl ∙ sym (deposit-bit r i l)
+      go (no g) t u = bit-beyond (deposit-lt q) (omega arith) ∙ sym (bit-beyond (deposit-lt r) (omega arith))
+
+  -- the smaller number gives the smaller word
+  pub deposit-rises : (q r : ℕ) → r < 2 ^ countBelow m test → q < r → deposit test m q < deposit test m r
+  unfolding Highest
+  deposit-rises q r h l =
+      let top = highest-of r q l in
+      let at = count-onto test m (top .0) (bit-within h (top .1 .1)) in
+      highest-lt (deposit test m q) (deposit test m r) (at .0) (
+        deposit-bit q (at .0) (at .1) ∙ rw (at .2, at .3) (top .1 .0),
+        deposit-bit r (at .0) (at .1) ∙ rw (at .2, at .3) (top .1 .1),
+        λ i k. same-bit q r i (λ u. top .1 .2 (countBelow i test) (rw (at .3) at (count-rises test k (at .2)))),
+      )
+
+  -- a one above the places that are there changes nothing
+  pub deposit-above : (q : ℕ) → q < 2 ^ countBelow m test → deposit test m (2 ^ countBelow m test + q) ≡ deposit test m q
+  deposit-above q h =
+      bit-ext-below m (deposit-lt _) (deposit-lt q) (λ i l. same-bit (2 ^ countBelow m test + q) q i (λ t. lower (countBelow i test) (count-rises test l t)))
+    where
+      lower : (k : ℕ) → k < countBelow m test → bit (2 ^ countBelow m test + q) k ≡ bit q k
+      lower k l = rw one-mul at (bit-low 1 (countBelow m test) h k l)
+
+  -- one more place, which passes
+  pub deposit-passing : (q : ℕ) → test m ≡ true → deposit test (suc m) q ≡ deposit test m q + bit q (countBelow m test) * 2 ^ m
+  unfolding deposit sumBelow
+  deposit-passing q t = rw t
+
+  -- or fails
+  pub deposit-failing : (q : ℕ) → test m ≡ false → deposit test (suc m) q ≡ deposit test m q
+  unfolding deposit sumBelow
+  deposit-failing q t = rw t (omega arith)

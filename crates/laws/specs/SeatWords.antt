@@ -1,0 +1,104 @@
+-- Words in seat order: bit p of a word in seat order is the bit at the index of seat p, and the matrix map is the same in both.
+use Prim.Native.Nat.{ℕ, _+_, _*_, _%_, _^_, _≤_, _<_}
+use mathlib.Core.Path.{_≡_, sym, ap, ap₂, _∙_}
+use mathlib.Core.Bool.{Bool, cond}
+use native.Mathlib.Nat.{add-mul, zero-mul, le-refl, le-trans, le-of-lt}
+use native.Mathlib.Omega.{arith}
+use lib.Bits.{bitOr}
+use Rattle.rules.specs.Below.{sumBelow}
+use Rattle.rules.specs.Word.{bit, covers, codeBit, codeword}
+use Rattle.laws.specs.Sums.{sum-cong, sum-zero, sum-add}
+use Rattle.laws.specs.Bits.{bit-lt-two, bit-zero, bit-beyond, bit-add, bit-ext-below, word-lt, word-bit}
+use Rattle.laws.specs.BitsMore.{small-of-bits}
+use Rattle.laws.specs.Matrix.{codeword-bit, codeword-lt}
+use Rattle.laws.specs.Placed.{Apart, or-single, placed-at, placed-other, sum-permuted}
+use Rattle.laws.specs.Seats.{seatIndex, seat-below, seat-covers, seat-inj, seat-onto}
+
+-- the bits of the seats below m, at their indices
+abbrev pub unseatBelow : ℕ → ℕ → ℕ → ℕ → ℕ
+unseatBelow n F w m = sumBelow m (λ p. bit w p * 2 ^ seatIndex n F p)
+
+-- the word of a word in seat order
+unfoldable pub unseat : ℕ → ℕ → ℕ → ℕ
+unseat n F w = unseatBelow n F w (2 ^ n)
+
+-- the bits at the indices of the seats below m, in seat order
+abbrev pub seatBelow : ℕ → ℕ → ℕ → ℕ → ℕ
+seatBelow n F w m = sumBelow m (λ p. bit w (seatIndex n F p) * 2 ^ p)
+
+-- a word in seat order
+unfoldable pub seat : ℕ → ℕ → ℕ → ℕ
+seat n F w = seatBelow n F w (2 ^ n)
+
+module _ (n F : ℕ) where
+  seat-below-lt : (w m : ℕ) → seatBelow n F w m < 2 ^ m
+  seat-below-lt w m = word-lt m (λ p. bit w (seatIndex n F p)) (λ p _. bit-lt-two w (seatIndex n F p))
+
+  -- a word in seat order has 2 ^ n bits
+  pub seat-lt : (w : ℕ) → seat n F w < 2 ^ (2 ^ n)
+  unfolding seat
+  seat-lt w = seat-below-lt w (2 ^ n)
+
+  -- its bits are those at the seats' indices
+  pub seat-bit : (w p : ℕ) → p < 2 ^ n → bit (seat n F w) p ≡ bit w (seatIndex n F p)
+  unfolding seat
+  seat-bit w = word-bit (2 ^ n) (λ p. bit w (seatIndex n F p)) (λ p _. bit-lt-two w (seatIndex n F p))
+
+  -- the next bit in seat order, put by `or`, is added
+  pub seat-step-or : (w m : ℕ) → bitOr (seatBelow n F w m) (2 ^ m) ≡ seatBelow n F w m + 2 ^ m
+  seat-step-or w m = or-single (seatBelow n F w m) m (bit-beyond (seat-below-lt w m) (le-refl m))
+
+  -- words with no common one are put in place apart
+  pub unseat-add : (v w : ℕ) → ((k : ℕ) → bit v k + bit w k ≤ 1) → unseat n F (v + w) ≡ unseat n F v + unseat n F w
+  unfolding unseat
+  unseat-add v w h = sum-cong (2 ^ n) (λ p _. rw (bit-add v w h p) (add-mul (bit v p) (bit w p) _)) ∙ sum-add (2 ^ n) _ _
+
+  -- word 0 is 0 in either order
+  pub unseat-zero : unseat n F 0 ≡ 0
+  unfolding unseat
+  unseat-zero = sum-zero (2 ^ n) (λ p _. rw (bit-zero p) (zero-mul _))
+
+module _ (n F : ℕ) (fits : F < 2 ^ n) where
+  apart : (m : ℕ) → m ≤ 2 ^ n → Apart m (seatIndex n F)
+  apart m l p q hp hq = seat-inj n F fits p q (le-trans hp l) (le-trans hq l)
+
+  -- the bit at a seat's index is the seat's
+  pub unseat-bit : (w p : ℕ) → p < 2 ^ n → bit (unseat n F w) (seatIndex n F p) ≡ bit w p
+  unfolding unseat
+  unseat-bit w = placed-at (seatIndex n F) (bit w) (bit-lt-two w) (2 ^ n) (apart (2 ^ n) (le-refl _))
+
+  -- a word out of seat order has 2 ^ n bits
+  pub unseat-lt : (w : ℕ) → unseat n F w < 2 ^ (2 ^ n)
+  unfolding unseat
+  unseat-lt w = small-of-bits (2 ^ n) _ (λ i g. placed-other (seatIndex n F) (bit w) (bit-lt-two w) (2 ^ n) (apart (2 ^ n) (le-refl _)) i
+      (λ p l e. omega (arith, seat-below n F fits p l)))
+
+  -- the next seat's bit, put by `or` at its index, is added
+  pub unseat-step-or : (w m : ℕ) → m < 2 ^ n → bitOr (unseatBelow n F w m) (2 ^ seatIndex n F m) ≡ unseatBelow n F w m + 2 ^ seatIndex n F m
+  unseat-step-or w m l = or-single (unseatBelow n F w m) (seatIndex n F m)
+      (placed-other (seatIndex n F) (bit w) (bit-lt-two w) m (apart m (le-of-lt l)) (seatIndex n F m)
+      (λ p h e. omega (arith, seat-inj n F fits p m (omega arith) l e)))
+
+  -- into seat order after out of it
+  pub seat-unseat : (w : ℕ) → w < 2 ^ (2 ^ n) → seat n F (unseat n F w) ≡ w
+  seat-unseat w h = bit-ext-below (2 ^ n) (seat-lt n F _) h (λ p l. seat-bit n F (unseat n F w) p l ∙ unseat-bit w p l)
+
+  by-seats : (a b : ℕ) → a < 2 ^ (2 ^ n) → b < 2 ^ (2 ^ n) → ((p : ℕ) → p < 2 ^ n → bit a (seatIndex n F p) ≡ bit b (seatIndex n F p)) → a ≡ b
+  by-seats a b ha hb h = bit-ext-below (2 ^ n) ha hb (λ i l. let r = seat-onto n F fits i l in rw (r .2) at (h (r .0) (r .1)))
+
+  -- out of seat order after into it
+  pub unseat-seat : (w : ℕ) → w < 2 ^ (2 ^ n) → unseat n F (seat n F w) ≡ w
+  unseat-seat w h = by-seats _ w (unseat-lt (seat n F w)) h (λ p l. unseat-bit (seat n F w) p l ∙ seat-bit n F w p l)
+
+  -- the matrix map in seat order, bit by bit
+  pub unseat-code-bit : (w p : ℕ) → p < 2 ^ n → codeBit n (unseat n F w) (seatIndex n F p) ≡ codeBit n w p
+  unfolding codeBit
+  unseat-code-bit w p l = ap (λ (x : ℕ). x % 2) (
+      sym (sum-permuted (2 ^ n) (seatIndex n F) (seat-below n F fits) (apart (2 ^ n) (le-refl _)) (seat-onto n F fits)
+      (λ j. cond (covers (seatIndex n F p) j) (bit (unseat n F w) j) 0))
+      ∙ sum-cong (2 ^ n) (λ q h. ap₂ (λ (t : Bool) (b : ℕ). cond t b 0) (seat-covers n F fits p q l h) (unseat-bit w q h)))
+
+  -- the matrix map in seat order
+  pub codeword-unseat : (w : ℕ) → codeword n (unseat n F w) ≡ unseat n F (codeword n w)
+  codeword-unseat w = by-seats _ _ (codeword-lt n _) (unseat-lt (codeword n w))
+      (λ p l. codeword-bit n (unseat n F w) (seatIndex n F p) ∙ unseat-code-bit w p l ∙ sym (codeword-bit n w p) ∙ sym (unseat-bit (codeword n w) p l))

@@ -1,0 +1,67 @@
+-- A level in range, shifted by the limit, is an unsigned number, and its distances from both ideal levels are those of that number.
+use Prim.Native.Nat.{ℕ, suc, _+_, _-_, _^_, _≤_, _<_}
+use mathlib.Core.Path.{_≡_, refl, sym, ap, _∙_}
+use mathlib.Core.Bool.{Bool, true, false, cond, not, _&&_}
+use native.Mathlib.Omega.{arith}
+use lib.Dec.{ltb, leb}
+use lib.IntN.{ℤ, pos, negsuc, natAbs, _+ℤ_, subℕ}
+use lib.Signed.{leZ, mag}
+use mir.Syntax.{w32}
+use mir.Val.{SFits, toZ, ofZ}
+use mir.ValLaws.{toZ-ofZ, toZ-pos}
+use borrow.Author.Needs.{sfits-of}
+use borrow.Author.Tests.{leb-true, leb-false, le-leb, lt-leb, le-ltb, ltb-true, ltb-false}
+use Rattle.rules.specs.Level.{limit, inRange, gap}
+
+-- the range as two signed tests
+pub range-tests : (z : ℤ) → inRange z ≡ (leZ (negsuc (limit - 1)) z && leZ z (pos limit))
+range-tests (pos m) = refl
+range-tests (negsuc m) = go (leb m (limit - 1)) refl
+  where
+    go : (t : Bool) → leb m (limit - 1) ≡ t → leb (suc m) limit ≡ (t && true)
+    go true e = le-leb (suc m) limit (omega (arith, leb-true m (limit - 1) e))
+    go false e = lt-leb (suc m) limit (omega (arith, leb-false m (limit - 1) e))
+
+-- what a test of a level that was read says of the level
+pub tested : (z : ℤ) {r t : Bool} → mag z < 2 ^ 31 → r ≡ inRange (toZ w32 (ofZ w32 z)) → not r ≡ t → not (inRange z) ≡ t
+tested z small e f = ap not (ap inRange (sym (toZ-ofZ w32 z (sfits-of small))) ∙ sym e) ∙ f
+
+-- a level above the least one
+abbrev pub shift : ℤ → ℕ
+shift (pos m) = m + limit
+shift (negsuc m) = limit - suc m
+
+pub shift-le : (z : ℤ) → inRange z ≡ true → shift z ≤ limit + limit
+shift-le (pos m) h = omega (arith, leb-true m limit h)
+shift-le (negsuc m) h = omega arith
+
+shift-sum : (z : ℤ) → inRange z ≡ true → z +ℤ pos limit ≡ pos (shift z)
+shift-sum (pos m) h = refl
+shift-sum (negsuc m) h = rw (le-ltb limit (suc m) (leb-true (suc m) limit h))
+
+-- how far two numbers are apart, from their difference
+sub-apart : (a b : ℕ) → natAbs (subℕ a b) ≡ a - b + (b - a)
+sub-apart a b = go (ltb a b) refl
+  where
+    go : (t : Bool) → ltb a b ≡ t → natAbs (cond t (negsuc (b - suc a)) (pos (a - b))) ≡ a - b + (b - a)
+    go true e = omega (arith, ltb-true a b e)
+    go false e = omega (arith, ltb-false a b e)
+
+-- the distance from the ideal level of bit 0
+pub gap-zero : (z : ℤ) → inRange z ≡ true → gap z 0 ≡ shift z - (limit - 256) + (limit - 256 - shift z)
+gap-zero (pos m) h = omega arith
+gap-zero (negsuc m) h = sub-apart 256 (suc m) ∙ omega (arith, leb-true (suc m) limit h)
+
+-- and of bit 1
+pub gap-one : (z : ℤ) → inRange z ≡ true → gap z 1 ≡ shift z - (limit + 256) + (limit + 256 - shift z)
+gap-one (pos m) h = sub-apart m 256 ∙ omega arith
+gap-one (negsuc m) h = omega (arith, leb-true (suc m) limit h)
+
+module _ (z : ℤ) (fits : SFits w32 z) (h : inRange z ≡ true) where
+  -- the machine's sum
+  pub sum-read : toZ w32 (ofZ w32 z) +ℤ pos limit ≡ pos (shift z)
+  sum-read = ap (λ (x : ℤ). x +ℤ pos limit) (toZ-ofZ w32 z fits) ∙ shift-sum z h
+
+  -- and what is read of it
+  pub shift-read : toZ w32 (ofZ w32 (toZ w32 (ofZ w32 z) +ℤ pos limit)) ≡ pos (shift z)
+  shift-read = ap (λ (x : ℤ). toZ w32 (ofZ w32 x)) sum-read ∙ toZ-pos w32 (shift z) (omega (arith, shift-le z h))

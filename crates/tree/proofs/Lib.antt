@@ -1,0 +1,16 @@
+pub mod Widening
+pub mod WideningBy
+pub mod SeatLoops
+pub mod Packing
+pub mod Rows
+pub mod Steps
+pub mod Trying
+pub mod Costs
+pub mod BothEnds
+pub mod Doubling
+pub mod Building
+pub mod Places
+pub mod Searching
+pub mod Emptiness
+pub mod Found
+pub mod Checks

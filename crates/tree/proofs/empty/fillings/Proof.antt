@@ -1,0 +1,34 @@
+-- `tree::empty::fillings` meets its contract.
+use Prim.Native.Nat.{_-_}
+use mathlib.Core.Path.{_∙_}
+use native.Mathlib.Nat.{one-mul}
+use native.Mathlib.Omega.{arith}
+use lib.Count.{ones, ones-le}
+use lib.Pow.{shl-exact}
+use borrow.Author.Needs.{needs}
+use Rattle.tree.proofs.empty.fillings.Statement.{statement}
+use Rattle.tree.proofs.empty.fillings.Tie as tie
+
+ones-requires : tie.Need-ones-requires
+ones-requires c κs = search needs
+
+cast-result : tie.Need-cast-result
+cast-result c = search needs
+
+sub-result : tie.Need-sub-result
+sub-result c = omega (arith, c .ones .ensures, ones-le (c .before .args .size) (c .before .args .shut) (c .before .pre .1))
+
+cast-result-2 : tie.Need-cast-result-2
+cast-result-2 c = search needs
+
+shl-result : tie.Need-shl-result
+shl-result c = search needs
+
+returns : tie.Need-returns
+returns c =
+    rw (c .ones .ensures)
+    (shl-exact 1 (c .before .args .size - ones (c .before .args .shut)) 32 (omega arith) (omega (arith, c .before .pre .0)) ∙ one-mul _)
+
+pub fillings-spec : {M : Type 1} → statement M
+fillings-spec =
+    tie.close (tie.spec ones-requires cast-result sub-result cast-result-2 shl-result returns)

@@ -1,0 +1,142 @@
+-- `tree::row::fill_row` meets its contract: before each turn the row begins with that of the group's first t slots.
+use Prim.Native.Nat.{ℕ, suc, _+_, _-_, _%_, _^_, _≤_}
+use mathlib.Core.Path.{_≡_, refl, ap, _∙_}
+use mathlib.Core.List.{List, _++_}
+use native.Mathlib.Nat.{le-of-lt, le-trans}
+use native.Mathlib.Numerals.{add-one}
+use native.Mathlib.Omega.{arith}
+use borrow.Author.Needs.{needs}
+use lib.ListN.{length, drop, set, length-set}
+use lib.Pow.{pow-pos}
+use lib.Seq.{drop-set-lt}
+use Rattle.laws.specs.SortedRows.{rowOf}
+use Rattle.tree.specs.Costs.{seatCost}
+use Rattle.tree.proofs.Building.{size-small, size-even, seats-fewer, room, built-none, built-take, built-more}
+use Rattle.tree.proofs.row.fill_row.Statement.{statement}
+use Rattle.tree.proofs.row.fill_row.Tie as tie
+
+abbrev Inv-loop : tie.InvT-loop
+Inv-loop row₀ spare₀ levels index first size t₀ row spare t =
+    (t ≤ size) × (t % 2 ≡ 0) × (length row ≡ length row₀) × (length spare ≡ length spare₀)
+    × (row ≡ rowOf (seatCost levels index first) t ++ drop (2 ^ t) row₀)
+
+abbrev μ-loop : tie.MeasureT-loop
+μ-loop row₀ spare₀ levels index first size t₀ row spare t = size - t
+
+slice-write-spare : tie.Need-slice-write-spare Inv-loop μ-loop
+slice-write-spare c = let s = c .before .before .before in le-trans (pow-pos (s .args .size)) (s .pre .1 .1)
+
+add-slot-requires : tie.Need-add-slot-requires Inv-loop μ-loop
+add-slot-requires c κs =
+    let s = c .before .before .before .before .before in
+    let one : 1 ≤ s .args .size = omega (arith, c .before .before .if1 .taken) in
+    let some = le-trans (pow-pos (s .args .size)) (s .pre .1 .1) in (
+      (omega arith, seats-fewer 1 one (s .pre .0 .1)),
+      (
+        (rw (length-set (s .args .spare .now) 0 0) some, room one (s .pre .1 .0) refl),
+        built-take _ 0 (set (s .args .spare .now) 0 0) (built-none _ (s .args .spare .now) some),
+      ),
+    )
+
+same-length : tie.Need-same-length Inv-loop μ-loop
+same-length c = search needs
+
+same-length-2 : tie.Need-same-length-2 Inv-loop μ-loop
+same-length-2 c = search needs
+
+returns : tie.Need-returns Inv-loop μ-loop
+returns c = rw (c .before .before .before .before .before .if1 .taken) (c .before .before .add-slot .ensures)
+
+slice-write-row : tie.Need-slice-write-row Inv-loop μ-loop
+slice-write-row c = let s = c .before .before .before in le-trans (pow-pos (s .args .size)) (s .pre .1 .0)
+
+loop-holds : tie.Need-loop-holds Inv-loop μ-loop
+loop-holds c =
+    let s = c .before .before .before in
+    (omega arith, refl, refl, refl, built-none _ (s .args .row .now) (le-trans (pow-pos (s .args .size)) (s .pre .1 .0)))
+
+add-slot-requires-2 : tie.Need-add-slot-requires-2 Inv-loop μ-loop
+add-slot-requires-2 c κs =
+    let l = c .before .before .before .loop in
+    let s = c .before .before .before .before .before .before .before in
+    let less = c .before .before .loop-test .taken in
+    let long = l .inv .2 ∙ length-set (s .args .row .now) 0 0 in (
+      (omega (arith, size-small (s .pre .0 .0)), seats-fewer (suc (l .t)) less (s .pre .0 .1)),
+      ((room (le-of-lt less) (s .pre .1 .0) long, room less (s .pre .1 .1) (l .inv .3)), built-take _ (l .t) (set (s .args .row .now) 0 0) (l .inv .4)),
+    )
+
+add-add-slot : tie.Need-add-add-slot Inv-loop μ-loop
+add-add-slot c = search needs
+
+add-slot-requires-3 : tie.Need-add-slot-requires-3 Inv-loop μ-loop
+add-slot-requires-3 c κs =
+    let l = c .before .before .before .before .before .before .before .before in
+    let s = c .before .before .before .before .before .before .before .before .before .before .before .before in
+    let t = l .loop .t in
+    let cost : ℕ → ℕ → ℕ = seatCost (s .args .levels .now) (s .args .index .now) (s .args .first) in
+    let less = c .before .before .before .before .before .before .before .loop-test .taken in
+    let next : suc (t + 1) ≤ s .args .size = omega (arith, size-even (s .pre .0 .0) (l .before .if1 .left)) in
+    let long = l .loop .inv .2 ∙ length-set (s .args .row .now) 0 0 in
+    let step = c .before .before .before .before .add-slot2 in (
+      (omega (arith, size-small (s .pre .0 .0)), seats-fewer (suc (t + 1)) next (s .pre .0 .1)),
+      (
+        (rw (add-one t) (room less (s .pre .1 .1) (step .kept .1 .0 ∙ l .loop .inv .3)), room next (s .pre .1 .0) long),
+        rw (add-one t) (built-take cost (suc t) (l .loop .spare) (step .ensures)),
+      ),
+    )
+
+add-t : tie.Need-add-t Inv-loop μ-loop
+add-t c = search needs
+
+loop-less : tie.Need-loop-less Inv-loop μ-loop
+loop-less c = search needs
+
+loop-again : tie.Need-loop-again Inv-loop μ-loop
+loop-again c =
+    let l = c .before .before .before .before .before .before .before .before .before .before .before in
+    let s = c .before .before .before .before .before .before .before .before .before .before .before .before .before .before .before in
+    let t = l .loop .t in
+    let next : t + 2 ≡ suc (t + 1) = omega arith in (
+      omega (arith, size-even (s .pre .0 .0) (l .before .if1 .left)),
+      omega arith,
+      c .before .before .add-slot3 .kept .1 .0 ∙ l .loop .inv .2,
+      c .before .before .before .before .before .before .before .add-slot2 .kept .1 .0 ∙ l .loop .inv .3,
+      rw next (built-more _ t (set (s .args .row .now) 0 0) (l .loop .inv .4) (suc (t + 1)) (omega arith) (c .before .before .add-slot3 .ensures)),
+    )
+
+same-length-3 : tie.Need-same-length-3 Inv-loop μ-loop
+same-length-3 c = c .before .loop .inv .2 ∙ length-set (c .before .before .before .before .before .args .row .now) 0 0
+
+same-length-4 : tie.Need-same-length-4 Inv-loop μ-loop
+same-length-4 c = search needs
+
+returns-2 : tie.Need-returns-2 Inv-loop μ-loop
+returns-2 c =
+    let s = c .before .before .before .before .before in
+    let all : c .before .loop .t ≡ s .args .size = omega arith in
+    let cost : ℕ → ℕ → ℕ = seatCost (s .args .levels .now) (s .args .index .now) (s .args .first) in
+    rw all at (c .before .loop .inv .4)
+    ∙ ap (λ (r : List ℕ). rowOf cost (s .args .size) ++ r) (drop-set-lt (2 ^ (s .args .size)) (s .args .row .now) 0 0 (pow-pos (s .args .size)))
+
+pub fill-row-spec : {M : Type 1} → statement M
+fill-row-spec =
+    tie.close
+    (tie.spec
+    Inv-loop
+    μ-loop
+    slice-write-spare
+    add-slot-requires
+    same-length
+    same-length-2
+    returns
+    slice-write-row
+    loop-holds
+    add-slot-requires-2
+    add-add-slot
+    add-slot-requires-3
+    add-t
+    loop-less
+    loop-again
+    same-length-3
+    same-length-4
+    returns-2)

@@ -1,0 +1,37 @@
+-- What the steps that build the seats ask of the indices so far.
+use Prim.Native.Nat.{ℕ, _+_, _*_, _^_, _≤_, _<_}
+use mathlib.Core.List.{List}
+use mathlib.Core.Path.{_≡_}
+use lib.ListN.{length, getD, take}
+use Rattle.rules.specs.Below.{countBelow}
+use Rattle.rules.specs.Word.{codeword}
+use Rattle.rules.specs.Refusals.{largest}
+use Rattle.laws.specs.Seats.{hasBit, seats}
+
+-- the first m of a list are at most c
+abbrev pub AtMost : List ℕ → ℕ → ℕ → Type 0
+AtMost l m c = (q : ℕ) → q < m → getD l q 0 ≤ c
+
+-- m indices can be widened by a step
+pub record Widens (l : List ℕ) (m step : ℕ) : Type 0 where
+  pub long : length l ≡ 64
+  pub room : m + m ≤ 64
+  pub small : AtMost l m 4096
+  pub short : step ≤ 64
+
+-- m indices can be widened by each bit of the folding below n that has the value wanted
+pub record WidensBy (l : List ℕ) (m n folding wanted : ℕ) : Type 0 where
+  pub long : length l ≡ 64
+  pub room : m * 2 ^ countBelow n (hasBit folding wanted) ≤ 64
+  pub small : AtMost l m 1024
+  pub few : n ≤ 6
+
+-- a list holds the index at each seat
+pub record Seated (l : List ℕ) (n folding : ℕ) : Type 0 where
+  pub few : n ≤ 6
+  pub fits : folding < 2 ^ n
+  pub listed : take (2 ^ n) l ≡ seats n folding
+
+-- for each of the groups, a one at the first seat of each group that it covers
+abbrev pub Covered : List ℕ → ℕ → ℕ → Type 0
+Covered l groups size = (k : ℕ) → k < groups → getD l k 0 ≡ codeword largest (2 ^ (k * size))

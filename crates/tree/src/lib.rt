@@ -1,0 +1,93 @@
+// Decoding by the folded tree: the least word of received levels, under every folding.
+mod cost;
+mod empty;
+mod row;
+mod seat;
+mod state;
+mod walk;
+
+ghost use mathlib.Core.Path.{_≡_};
+ghost use Rattle.rules.specs.Answers.{decodeAnswer};
+ghost use Rattle.word.specs.Words.{wordOf};
+ghost use Rattle.tree.specs.Reading.{answerOf};
+ghost use Rattle.tree.specs.Search.{Searchable, searchAnswer};
+use crate::walk::Tree;
+use refusal::Refusal;
+use word::Word;
+
+// A finished decoding.
+pub struct Decoded {
+    pub message: Word,
+    pub d: Word,
+    pub x: Word,
+    pub distance: u32,
+    pub visits: u32,
+}
+
+pub enum Answer {
+    Found(Decoded),
+    Refused(Refusal),
+}
+
+// The least word by the walk, for what refusals 1 to 6 have let pass; refusals 7, 8.
+fn search(n: u32, levels: &[i32], frozen: Word, folding: u32, allowance: u32) -> Answer
+    requires { ⌜ Searchable n (now levels) folding ⌝ }
+    ensures { λ r. ⌜ answerOf r ≡ searchAnswer n (now (levels .entry)) (wordOf frozen) folding allowance ⌝ }
+{
+    let size: usize = 1 << word::count::folding_size(folding);
+    let groups = levels.len() / size;
+    let index = seat::seats(n, folding);
+    let seated = seat::seated(&index, n, folding, frozen);
+    let empty = empty::first_empty(seated, groups, size);
+    if empty < groups {
+        return Answer::Refused(Refusal::NoCandidate(empty));
+    }
+    let rows = row::rows(levels, &index, groups, size);
+    let covered = seat::covered(groups, size);
+    let tree = Tree {
+        n,
+        folding,
+        size,
+        frozen: seated,
+        allowance,
+    };
+    let end = walk::walk(&rows, &index, &covered, tree, groups);
+    if end.stopped {
+        return Answer::Refused(Refusal::Allowance);
+    }
+    let d = end.word;
+    Answer::Found(Decoded {
+        message: word::message::gather(n, frozen, d),
+        d,
+        x: word::matrix::map(d),
+        distance: end.distance,
+        visits: end.visits,
+    })
+}
+
+// The message whose codeword is nearest to the levels, ties to the smallest information word; refusals 1 to 8.
+pub fn decode(n: u32, levels: &[i32], frozen: Word, folding: u32, allowance: u32) -> Answer
+    ensures { λ r. ⌜ answerOf r ≡ decodeAnswer n (now (levels .entry)) (wordOf frozen) folding allowance ⌝ }
+{
+    if word::wrong_size(n) {
+        return Answer::Refused(Refusal::Size);
+    }
+    let slots = word::slots(n);
+    if levels.len() != slots {
+        return Answer::Refused(Refusal::Length);
+    }
+    if word::count::reaches(frozen, slots) {
+        return Answer::Refused(Refusal::Mask);
+    }
+    if (1 << n) <= folding {
+        return Answer::Refused(Refusal::Folding);
+    }
+    if 3 < word::count::folding_size(folding) {
+        return Answer::Refused(Refusal::WideFolding);
+    }
+    let first = cost::first_out_of_range(levels);
+    if first < slots {
+        return Answer::Refused(Refusal::Range(first));
+    }
+    search(n, levels, frozen, folding, allowance)
+}

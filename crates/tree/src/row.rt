@@ -1,0 +1,171 @@
+// Sorted rows: for each group its patterns with their branch distances, in order, whole.
+// An entry is the distance times 256 plus the pattern, so that the order of numbers is the order of candidates.
+ghost use mathlib.Core.Path.{_≡_};
+ghost use mathlib.Core.Bool.{cond};
+ghost use mathlib.Core.List.{_++_};
+ghost use Prim.Native.Nat.{ℕ, suc, _+_, _*_, _^_, _<_, _≤_, min, max};
+ghost use lib.Dec.{ltb};
+ghost use lib.ListN.{length, getD, take, drop};
+ghost use Rattle.rules.specs.Level.{levelAt};
+ghost use Rattle.laws.specs.SortedLists.{Rising};
+ghost use Rattle.laws.specs.SortedRows.{doubled};
+ghost use Rattle.tree.specs.Costs.{seatRow, GroupSize, Levelled, RowsRight};
+use crate::cost::slot_costs;
+
+fn least(x: u64, y: u64) -> u64
+    ensures { λ r. ⌜ r ≡ min x y ⌝ }
+{
+    if x < y { x } else { y }
+}
+
+fn greatest(x: u64, y: u64) -> u64
+    ensures { λ r. ⌜ r ≡ max x y ⌝ }
+{
+    if x < y { y } else { x }
+}
+
+// 1 where x is the smaller, else 0.
+fn less(x: u64, y: u64) -> usize
+    ensures { λ r. ⌜ (r ≡ cond (ltb x y) 1 0) × (r ≤ 1) ⌝ }
+{
+    (x < y) as usize
+}
+
+// The row of one slot more: the first m entries once with `zero` and once with `one` added, merged.
+// It is filled from both ends at once, m entries from each, so that neither half runs out and no branch goes by the data:
+// of the two halves a and b entries went to the front, and c and d are left before those that went to the back.
+fn double(from: &[u64], to: &mut [u64], m: usize, zero: u64, one: u64)
+    requires { ⌜ (m ≤ length (now from)) × (m + m ≤ length (now to)) ⌝ }
+    requires { ⌜ Rising _<_ (take m (now from)) ⌝ }
+    requires { ⌜ ((i : ℕ) → i < m → getD (now from) i 0 + (zero + one) < 2 ^ 64) ⌝ }
+    ensures { λ _. ⌜ now (to .exit) ≡ doubled zero one (take m (now (from .entry))) ++ drop (m + m) (now (to .entry)) ⌝ }
+{
+    let mut a = 0;
+    let mut b = 0;
+    let mut c = m;
+    let mut d = m;
+    while a + b < m {
+        let x = from[a] + zero;
+        let y = from[b] + one;
+        let first = less(x, y);
+        to[a + b] = least(x, y);
+        let z = from[c - 1] + zero;
+        let w = from[d - 1] + one;
+        let last = less(z, w);
+        to[c + d - 1] = greatest(z, w);
+        a += first;
+        b += 1 - first;
+        c -= 1 - last;
+        d -= last;
+    }
+}
+
+// The level at a seat.
+fn seat_level(levels: &[i32], index: &[usize; 64], seat: usize) -> i32
+    requires { ⌜ (seat < 64) × (getD (now index) seat 0 < length (now levels)) ⌝ }
+    ensures { λ r. ⌜ r ≡ levelAt (now (levels .entry)) (getD (now (index .entry)) seat 0) ⌝ }
+{
+    let i = index[seat];
+    levels[i]
+}
+
+// From the row of a group's first t slots, that with slot t.
+fn add_slot(
+    from: &[u64],
+    to: &mut [u64],
+    t: usize,
+    levels: &[i32],
+    index: &[usize; 64],
+    first: usize,
+)
+    requires { ⌜ (t < 8) × Levelled (now levels) (now index) first (suc t) ⌝ }
+    requires { ⌜ (2 ^ t ≤ length (now from)) × (2 ^ suc t ≤ length (now to)) ⌝ }
+    requires { ⌜ take (2 ^ t) (now from) ≡ seatRow (now levels) (now index) first t ⌝ }
+    ensures { λ _. ⌜ now (to .exit) ≡ seatRow (now (levels .entry)) (now (index .entry)) first (suc t) ++ drop (2 ^ suc t) (now (to .entry)) ⌝ }
+{
+    let m: usize = 1 << t;
+    let costs = slot_costs(seat_level(levels, index, first + t));
+    double(
+        from,
+        to,
+        m,
+        (costs.zero as u64) * 256,
+        (costs.one as u64) * 256 + (m as u64),
+    );
+}
+
+// The row of the group whose first seat is given. Two slots a turn: from the row to the spare one and back.
+fn fill_row(
+    row: &mut [u64],
+    spare: &mut [u64],
+    levels: &[i32],
+    index: &[usize; 64],
+    first: usize,
+    size: usize,
+)
+    requires { ⌜ GroupSize size × Levelled (now levels) (now index) first size ⌝ }
+    requires { ⌜ (2 ^ size ≤ length (now row)) × (2 ^ size ≤ length (now spare)) ⌝ }
+    ensures { λ _. ⌜ now (row .exit) ≡ seatRow (now (levels .entry)) (now (index .entry)) first size ++ drop (2 ^ size) (now (row .entry)) ⌝ }
+{
+    if size == 1 {
+        spare[0] = 0;
+        add_slot(spare, row, 0, levels, index, first);
+        return;
+    }
+    row[0] = 0;
+    let mut t = 0;
+    while t < size {
+        add_slot(row, spare, t, levels, index, first);
+        add_slot(spare, row, t + 1, levels, index, first);
+        t += 2;
+    }
+}
+
+// The row of a group at its place in a packed row.
+fn fill_at(
+    packed: &mut [u64],
+    at: usize,
+    spare: &mut [u64],
+    levels: &[i32],
+    index: &[usize; 64],
+    first: usize,
+    size: usize,
+)
+    requires { ⌜ GroupSize size × Levelled (now levels) (now index) first size ⌝ }
+    requires { ⌜ (at + 2 ^ size ≤ length (now packed)) × (2 ^ size ≤ length (now spare)) ⌝ }
+    ensures { λ _. ⌜ now (packed .exit) ≡ take at (now (packed .entry)) ++ (seatRow (now (levels .entry)) (now (index .entry)) first size ++ drop (at + 2 ^ size) (now (packed .entry))) ⌝ }
+{
+    fill_row(&mut packed[at..], spare, levels, index, first, size);
+}
+
+// The rows of all groups, one after the other.
+pub(crate) fn rows(
+    levels: &[i32],
+    index: &[usize; 64],
+    groups: usize,
+    size: usize,
+) -> [[u64; 256]; 8]
+    requires { ⌜ GroupSize size × Levelled (now levels) (now index) 0 (groups * size) ⌝ }
+    ensures { λ r. ⌜ RowsRight (now (levels .entry)) (now (index .entry)) groups size r ⌝ }
+{
+    let mut table = [[0u64; 256]; 8];
+    let mut spare = [0u64; 256];
+    let entries: usize = 1 << size;
+    let mut k = 0;
+    while k < groups {
+        let start = k * entries;
+        let row = start / 256;
+        let at = start % 256;
+        fill_at(
+            &mut table[row],
+            at,
+            &mut spare,
+            levels,
+            index,
+            k * size,
+            size,
+        );
+        k += 1;
+    }
+    table
+}
