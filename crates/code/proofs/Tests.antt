@@ -11,38 +11,25 @@ use Rattle.rules.specs.Refusals.{isWrongSize}
 use Rattle.rules.specs.Word.{unfrozen, messageBits, spread, codeword}
 use Rattle.rules.specs.Answers.{Encoded, encoded}
 use Rattle.rules.specs.Guard.{fewestOnes}
-use Rattle.laws.specs.Sizes.{size-le, own-size}
+use Rattle.laws.specs.Sizes.{size-le}
 use Rattle.laws.specs.Matrix.{codeword-longer}
 use Rattle.laws.specs.Message.{spread-lt}
 use Rattle.laws.specs.LeastBelow.{least-some-at}
 use Rattle.word.specs.Words.{sizeOf}
-<<<<<<< HEAD
+use Rattle.word.specs.Sizes.{right-size}
 
 module _ (n : ℕ) (right : isWrongSize n ≡ false) where
-  -- the slots counted at the size are N
-  pub slots-right : (slots : ℕ) → slots ≡ 2 ^ sizeOf n → slots ≡ 2 ^ n
-  slots-right slots count = count ∙ ap (λ (k : ℕ). 2 ^ k) (own-size n right)
-
-  -- a test of the mask against the slots is the rules' test
-  pub mask-test : (mask slots : ℕ) (t : Bool) → slots ≡ 2 ^ sizeOf n → t ≡ leb (2 ^ slots) mask → leb (2 ^ (2 ^ n)) mask ≡ t
-  mask-test mask slots t count test = sym (test ∙ ap (λ (m : ℕ). leb (2 ^ m) mask) (slots-right slots count))
-
-=======
-use Rattle.word.specs.Sizes.{size-le, right-size}
-
-module _ (n : ℕ) (right : isWrongSize n ≡ false) where
->>>>>>> 9ab6fc023876b427cf0188f880280da2b3ace857
   -- a test of the message against K is the rules' test
   pub message-test : (mask bits message : ℕ) (t : Bool) → bits ≡ messageBits (sizeOf n) mask → t ≡ leb (2 ^ bits) message
       → leb (2 ^ messageBits n mask) message ≡ t
   message-test mask bits message t count test =
-      sym (test ∙ ap (λ (m : ℕ). leb (2 ^ m) message) (count ∙ ap (λ (k : ℕ). messageBits k mask) (own-size n right)))
+      sym (test ∙ ap (λ (m : ℕ). leb (2 ^ m) message) (count ∙ ap (λ (k : ℕ). messageBits k mask) (right-size n right)))
 
   -- the words of a message, made at the size and mapped at the largest n, are the rules'
   pub words-right : (mask message d x : ℕ) → d ≡ spread (sizeOf n) mask message → x ≡ codeword 6 d
       → _≡_ {A = Encoded} (record { d = d; x = x }) (encoded n mask message)
   words-right mask message d x isWord isCode =
-      let word : d ≡ spread n mask message = isWord ∙ ap (λ (k : ℕ). spread k mask message) (own-size n right) in
+      let word : d ≡ spread n mask message = isWord ∙ ap (λ (k : ℕ). spread k mask message) (right-size n right) in
       let code : x ≡ codeword n (spread n mask message) =
       isCode ∙ ap (codeword 6) word ∙ codeword-longer n 6 _ (size-le n right) (spread-lt n mask message)
       in

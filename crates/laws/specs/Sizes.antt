@@ -1,8 +1,7 @@
 -- An n that is not wrong: it is at most the largest.
-use Prim.Native.Nat.{ℕ, _≤_, min}
+use Prim.Native.Nat.{ℕ, _≤_}
 use mathlib.Core.Path.{_≡_, refl}
 use mathlib.Core.Bool.{Bool, true, false, _||_, true≢false}
-use native.Mathlib.Omega.{arith}
 use lib.Dec.{ltb}
 use borrow.Author.Tests.{ltb-false}
 use Rattle.rules.specs.Refusals.{isWrongSize, largest}
@@ -18,6 +17,3 @@ or-right false b e = e
 
 pub size-le : (n : ℕ) → isWrongSize n ≡ false → n ≤ largest
 size-le n e = ltb-false largest n (or-right (ltb n 1) (ltb largest n) e)
-
-pub own-size : (n : ℕ) → isWrongSize n ≡ false → min n largest ≡ n
-own-size n e = omega (arith, size-le n e)

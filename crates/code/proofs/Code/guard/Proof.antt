@@ -6,13 +6,8 @@ use Rattle.rules.specs.Guard.{fewestOnes, guardOf, guardFor}
 use Rattle.rules.specs.Refusals.{done}
 use Rattle.rules.specs.Answers.{guardAnswer}
 use Rattle.word.specs.Words.{sizeOf, fewestOf}
-<<<<<<< HEAD
-use Rattle.laws.specs.Sizes.{own-size}
-use Rattle.code.proofs.Tests.{mask-test, fewest-small, guard-fits}
-=======
 use Rattle.word.specs.Sizes.{right-size, mask-test}
 use Rattle.code.proofs.Tests.{fewest-small, guard-fits}
->>>>>>> 9ab6fc023876b427cf0188f880280da2b3ace857
 use borrow.Author.Needs.{needs}
 use Rattle.code.proofs.Code.guard.Statement.{statement}
 use Rattle.code.proofs.Code.guard.Tie as tie
@@ -54,7 +49,7 @@ returns-3 c =
     let right = sym (c .before .before .before .before .before .before .before .before .wrong-size .ensures) ∙ c .before .before .before .before .before .before .before .if1 .left in
     let found = sym (c .before .before .before .fewest-ones .ensures) ∙ ap fewestOf (c .before .found .given .1) in
     rw (right, mask-test _ right _ _ _ (c .before .before .before .before .before .before .slots .ensures) (c .before .before .before .before .before .reaches .ensures) ∙ c .before .before .before .before .if2 .left, guard-fits _ (fewest-small _ _ _ found))
-    (ap (λ w. done (guardFor w)) (sym (rw (own-size _ right) at found)))
+    (ap (λ w. done (guardFor w)) (sym (rw (right-size _ right) at found)))
 
 returns-4 : tie.Need-returns-4
 unfolding guardAnswer guardOf
@@ -62,7 +57,7 @@ returns-4 c =
     let right = sym (c .before .before .before .before .before .before .before .wrong-size .ensures) ∙ c .before .before .before .before .before .before .if1 .left in
     let found = sym (c .before .before .fewest-ones .ensures) ∙ ap fewestOf (c .enum-told .given .1) in
     rw (right, mask-test _ right _ _ _ (c .before .before .before .before .before .slots .ensures) (c .before .before .before .before .reaches .ensures) ∙ c .before .before .before .if2 .left)
-    (ap (λ w. done (guardFor w)) (sym (rw (own-size _ right) at found)))
+    (ap (λ w. done (guardFor w)) (sym (rw (right-size _ right) at found)))
 
 pub guard-spec : {M : Type 1} → statement M
 guard-spec =

@@ -8,8 +8,8 @@ use lib.Dec.{leb}
 use borrow.Author.Tests.{lt-ltb, le-ltb, le-leb, lt-leb}
 use Rattle.rules.specs.Refusals.{answer, isWrongSize}
 use Rattle.rules.specs.Record.{numberAt, fieldsOf, readAnswer}
-use Rattle.laws.specs.Sizes.{own-size}
 use Rattle.word.specs.Words.{sizeOf}
+use Rattle.word.specs.Sizes.{right-size}
 use Rattle.record.specs.Reading.{zerosAt}
 use Rattle.record.proofs.Order.{sizeAt, foldingAt, from5, from4, from3, from12, from1, from-13, refused-right, read-right}
 use borrow.Author.Needs.{needs}
@@ -36,7 +36,7 @@ slots-right : (c : tie.After-slots) → c .slots .result ≡ 2 ^ sizeAt (bytes1 
 slots-right c =
     c .slots .ensures
     ∙ ap (λ (k : ℕ). 2 ^ k)
-    (ap sizeOf (c .before .before .before .one .ensures) ∙ own-size _ (size-test (c .before .before) ∙ c .before .if2 .left))
+    (ap sizeOf (c .before .before .before .one .ensures) ∙ right-size _ (size-test (c .before .before) ∙ c .before .if2 .left))
 
 zero-test : (c : tie.After-zeros)
     → not (zerosAt (bytes1 (c .before .before)) (2 ^ sizeAt (bytes1 (c .before .before)))) ≡ not (c .zeros .result)
