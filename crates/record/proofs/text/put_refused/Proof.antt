@@ -27,14 +27,22 @@ whole c = simp append-assoc
 abbrev Part : tie.Start → ℕ → List ℕ → ℕ → List ℕ → Type 0
 Part c most text end after = Within most (c .args .out .now) (c .args .at) text end after
 
-number-put : (c : tie.After-put-decimal)
-    → Part (c .before .before .before) 10 (decimal (c .before .before .before .args .number)) (c .put-decimal .result) (c .put-decimal .last .0)
+abbrev start1 : tie.After-put-decimal → tie.Start
+start1 c = c .before .before .before
+
+number-put : (c : tie.After-put-decimal) → Part (start1 c) 10 (decimal (start1 c .args .number)) (c .put-decimal .result) (c .put-decimal .last .0)
 number-put c = record { put = c .put-decimal .ensures; short = ten-digits _ (omega arith) }
 
-word-put : (c : tie.After-put-bytes) → Part (c .before .before .before .before .before .before .before .before) 18 (word (c .before .before .before .before .before .before .before .before)) (c .put-bytes .result) (c .put-bytes .last .0)
+abbrev start2 : tie.After-put-bytes → tie.Start
+start2 c = start1 (c .before .before .before .before .before)
+
+word-put : (c : tie.After-put-bytes) → Part (start2 c) 18 (word (start2 c)) (c .put-bytes .result) (c .put-bytes .last .0)
 word-put c = within-then (number-put (c .before .before .before .before .before)) 8 (c .put-bytes .ensures) (omega arith)
 
-refusal-put : (c : tie.After-put-spaced) → Part (c .before .before .before .before .before .before .before .before .before .before .before .before .before) 29 (refusal (c .before .before .before .before .before .before .before .before .before .before .before .before .before)) (c .put-spaced .result) (c .put-spaced .last .0)
+abbrev start3 : tie.After-put-spaced → tie.Start
+start3 c = start2 (c .before .before .before .before .before)
+
+refusal-put : (c : tie.After-put-spaced) → Part (start3 c) 29 (refusal (start3 c)) (c .put-spaced .result) (c .put-spaced .last .0)
 refusal-put c =
     rw (← c .before .number .ensures)
     (within-then (word-put (c .before .before .before .before .before)) 11 (c .put-spaced .ensures) (spaced-short _ (omega arith)))
@@ -46,7 +54,7 @@ slice-aggregate-put-bytes : tie.Need-slice-aggregate-put-bytes
 slice-aggregate-put-bytes c = search needs
 
 put-bytes-requires : tie.Need-put-bytes-requires
-put-bytes-requires c κs = room-left (number-put (c .before .before .before .before)) 8 (c .before .before .before .before .before .before .before .pre) (omega arith)
+put-bytes-requires c κs = room-left (number-put (c .before .before .before .before)) 8 (start1 (c .before .before .before .before) .pre) (omega arith)
 
 number-requires : tie.Need-number-requires
 number-requires c κs = search needs
@@ -56,19 +64,22 @@ cast-put-spaced c = search needs
 
 put-spaced-requires : tie.Need-put-spaced-requires
 put-spaced-requires c κs =
-    omega (arith, room-left (word-put (c .before .before .before .before)) 11 (c .before .before .before .before .before .before .before .before .before .before .before .before .pre) (omega arith), spaced-short (c .number .result) (omega arith))
+    let c2 = c .before .before .before .before in
+    omega (arith, room-left (word-put c2) 11 (start2 c2 .pre) (omega arith), spaced-short (c .number .result) (omega arith))
 
 slice-aggregate-put-bytes-2 : tie.Need-slice-aggregate-put-bytes-2
 slice-aggregate-put-bytes-2 c = search needs
 
 put-bytes-requires-2 : tie.Need-put-bytes-requires-2
-put-bytes-requires-2 c κs = room-left (refusal-put (c .before .before .before .before)) 1 (c .before .before .before .before .before .before .before .before .before .before .before .before .before .before .before .before .before .pre) (omega arith)
+put-bytes-requires-2 c κs = room-left (refusal-put (c .before .before .before .before)) 1 (start3 (c .before .before .before .before) .pre) (omega arith)
 
 same-length : tie.Need-same-length
 same-length c = search needs
 
 returns : tie.Need-returns
-returns c = rw (← whole (c .before .before .before .before .before .before .before .before .before .before .before .before .before .before .before .before .before .before .before .before)) (within-then (refusal-put (c .before .before .before .before .before .before .before)) 27 (c .before .before .put-bytes2 .ensures) (omega arith))
+returns c =
+    let c3 = c .before .before .before .before .before .before .before in
+    rw (← whole (start3 c3)) (within-then (refusal-put c3) 27 (c .before .before .put-bytes2 .ensures) (omega arith))
 
 pub put-refused-spec : {M : Type 1} → statement M
 put-refused-spec =
