@@ -11,11 +11,12 @@ use Rattle.rules.specs.Refusals.{isWrongSize}
 use Rattle.rules.specs.Word.{unfrozen, messageBits, spread, codeword}
 use Rattle.rules.specs.Answers.{Encoded, encoded}
 use Rattle.rules.specs.Guard.{fewestOnes}
+use Rattle.laws.specs.Sizes.{size-le}
 use Rattle.laws.specs.Matrix.{codeword-longer}
 use Rattle.laws.specs.Message.{spread-lt}
 use Rattle.laws.specs.LeastBelow.{least-some-at}
 use Rattle.word.specs.Words.{sizeOf}
-use Rattle.word.specs.Sizes.{size-le, right-size}
+use Rattle.word.specs.Sizes.{right-size}
 
 module _ (n : ℕ) (right : isWrongSize n ≡ false) where
   -- a test of the message against K is the rules' test

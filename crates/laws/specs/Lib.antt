@@ -34,6 +34,11 @@ pub mod FillingCount
 pub mod CleanBlock
 pub mod GreatestDistance
 pub mod SquaredNorm
+pub mod LittleEndian
+pub mod Digits
+pub mod Stores
+pub mod Texts
+pub mod Sizes
 pub mod Seats
 pub mod SeatWords
 pub mod Placed

@@ -92,6 +92,14 @@ unfolding allBelow
 all-of zero test h = refl
 all-of (suc m) test h = ap₂ _&&_ (all-of m test (λ i l. h i (omega arith))) (h m (omega arith))
 
+-- where a number fails, not every one passes
+pub all-fails : (m : ℕ) (test : ℕ → Bool) (i : ℕ) → i < m → test i ≡ false → allBelow m test ≡ false
+all-fails m test i l fails = go (allBelow m test) refl
+  where
+    go : (a : Bool) → allBelow m test ≡ a → allBelow m test ≡ false
+    go true e = e ∙ sym (all-at m test e i l) ∙ fails
+    go false e = e
+
 -- no first number: each fails
 pub none-at : (m : ℕ) (test : ℕ → Bool) → firstBelow m test ≡ none → (i : ℕ) → i < m → test i ≡ false
 unfolding firstBelow

@@ -5,7 +5,8 @@ use mathlib.Core.Bool.{Bool, _||_}
 use native.Mathlib.Omega.{arith}
 use borrow.Author.Needs.{needs}
 use lib.Dec.{ltb}
-use Rattle.light.proofs.Sizes.{right-size, shifted}
+use Rattle.laws.specs.Sizes.{size-le}
+use Rattle.light.proofs.Sizes.{shifted}
 use Rattle.light.proofs.is_wrong.Statement.{statement}
 use Rattle.light.proofs.is_wrong.Tie as tie
 
@@ -19,13 +20,13 @@ returns c =
 
 shl-result : tie.Need-shl-result
 shl-result c =
-    omega (arith, right-size (c .before .before .args .n) (sym (c .before .is-wrong-size .ensures) ∙ c .if1 .left))
+    omega (arith, size-le (c .before .before .args .n) (sym (c .before .is-wrong-size .ensures) ∙ c .if1 .left))
 
 returns-2 : tie.Need-returns-2
 returns-2 c =
     let n = c .before .before .args .n in
     let e = sym (c .if1 .left) ∙ c .before .is-wrong-size .ensures in
-    ap (λ (k : ℕ). ltb k (c .before .before .args .filled)) (shifted n (right-size n (sym e)))
+    ap (λ (k : ℕ). ltb k (c .before .before .args .filled)) (shifted n (size-le n (sym e)))
     ∙ ap (λ (t : Bool). t || ltb (2 ^ n) (c .before .before .args .filled)) e
 
 pub is-wrong-spec : {M : Type 1} → statement M

@@ -6,7 +6,8 @@ use borrow.Author.Needs.{needs}
 use borrow.Author.Tests.{lt-ltb, le-ltb, le-leb, lt-leb}
 use Rattle.rules.specs.Refusals.{refuseAt}
 use Rattle.rules.specs.Answers.{decodeAnswer, treeOrder}
-use Rattle.word.specs.Sizes.{size-le, slots-right, mask-test}
+use Rattle.laws.specs.Sizes.{size-le}
+use Rattle.word.specs.Sizes.{slots-right, mask-test}
 use Rattle.tree.specs.Search.{searchAnswer}
 use Rattle.tree.proofs.Checks.{length-right, length-wrong, folding-shifted, range-right, range-wrong, in-range}
 use Rattle.tree.proofs.decode.Statement.{statement}

@@ -1,17 +1,15 @@
 -- `code::levels::fill` meets its contract. Invariant: each slot below i has the ideal level of its bit.
-use Prim.Native.Nat.{ℕ, _+_, _-_, _≤_, _<_}
-use mathlib.Core.Path.{_≡_, refl, sym, ap, _∙_}
+use Prim.Native.Nat.{ℕ, _-_, _≤_, _<_}
+use mathlib.Core.Path.{_≡_, refl, ap, _∙_}
 use native.Mathlib.Omega.{arith}
-use mathlib.Core.List.{List}
-use lib.IntN.{ℤ, pos}
-use lib.ListN.{length, getD, set, length-set}
-use lib.Seq.{ext-getD, getD-set-same, getD-set-other}
+use lib.IntN.{pos}
+use lib.ListN.{length, getD, length-set}
 use mir.ValLaws.{toZ-ofZ}
 use borrow.Author.Needs.{needs}
-use borrow.Author.Count.{below-none, below-more}
+use borrow.Author.Count.{below-none}
 use Rattle.rules.specs.Word.{bit}
 use Rattle.rules.specs.Level as rules
-use Rattle.laws.specs.Each.{each-at, each-length}
+use Rattle.laws.specs.Each.{each-stored, each-all}
 use Rattle.code.proofs.levels.fill.Statement.{statement}
 use Rattle.code.proofs.levels.fill.Tie as tie
 
@@ -21,14 +19,6 @@ Inv-loop x levels₀ i₀ levels i =
 
 abbrev μ-loop : tie.MeasureT-loop
 μ-loop x levels₀ i₀ levels i = length levels - i
-
--- a level stored at i: what held of the slots below i holds below i + 1
-level-stored : (f : ℕ → ℤ) (levels : List ℤ) (i : ℕ) (level : ℤ) → i < length levels → level ≡ f i
-    → ((j : ℕ) → j < i → getD levels j (pos 0) ≡ f j) → (j : ℕ) → j < i + 1 → getD (set levels i level) j (pos 0) ≡ f j
-level-stored f levels i level inside is below =
-    below-more _ i
-    (λ j l. getD-set-other levels i j level (pos 0) (λ (e : j ≡ i). omega arith) ∙ below j l)
-    (getD-set-same levels i level (pos 0) inside ∙ is)
 
 loop-holds : tie.Need-loop-holds Inv-loop μ-loop
 loop-holds c = (omega arith, refl, below-none _)
@@ -57,7 +47,7 @@ loop-again c =
     rw (length-set _ _ _) (
       omega arith,
       inv .1,
-      level-stored (λ j. rules.ideal (bit _ j)) (c .before .before .before .loop .levels) _ _ (omega arith)
+      each-stored (λ j. rules.ideal (bit _ j)) (pos 0) (c .before .before .before .loop .levels) _ _ (omega arith)
           (toZ-ofZ _ _ (search needs) ∙ c .ideal .ensures ∙ ap rules.ideal (c .before .bit .ensures))
           (inv .2),
     )
@@ -69,7 +59,7 @@ returns : tie.Need-returns Inv-loop μ-loop
 unfolding rules.idealLevels
 returns c k whole =
     let inv = c .before .loop .inv in
-    ext-getD (pos 0) _ _ (inv .1 ∙ whole ∙ sym (each-length _ _)) (λ j l. inv .2 j (omega arith) ∙ sym (each-at _ _ _ j (omega arith)))
+    each-all _ (pos 0) _ _ (inv .1 ∙ whole) (λ j l. inv .2 j (omega arith))
 
 pub fill-spec : {M : Type 1} → statement M
 fill-spec =

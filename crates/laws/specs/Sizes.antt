@@ -1,0 +1,19 @@
+-- An n that is not wrong: it is at most the largest.
+use Prim.Native.Nat.{ℕ, _≤_}
+use mathlib.Core.Path.{_≡_, refl}
+use mathlib.Core.Bool.{Bool, true, false, _||_, true≢false}
+use lib.Dec.{ltb}
+use borrow.Author.Tests.{ltb-false}
+use Rattle.rules.specs.Refusals.{isWrongSize, largest}
+
+-- neither of two tests that are false together is true
+pub or-left : (a b : Bool) → (a || b) ≡ false → a ≡ false
+or-left true b e = e
+or-left false b e = refl
+
+pub or-right : (a b : Bool) → (a || b) ≡ false → b ≡ false
+or-right true b e = absurd (true≢false e)
+or-right false b e = e
+
+pub size-le : (n : ℕ) → isWrongSize n ≡ false → n ≤ largest
+size-le n e = ltb-false largest n (or-right (ltb n 1) (ltb largest n) e)

@@ -1,0 +1,92 @@
+-- The text of bytes that are cut after whole records: the text of the first part, then that of the second from the next number on.
+use Prim.Native.Nat.{ℕ, zero, suc, _+_, _-_, _*_, _≤_, _<_, min}
+use mathlib.Core.Path.{_≡_, refl, sym, _∙_, ap}
+use mathlib.Core.List.{List, [], _∷_, _++_, append-assoc, append-nil}
+use native.Mathlib.Nat.{add-zero, sub-zero, zero-sub}
+use native.Mathlib.Decide.{decLe}
+use native.Mathlib.Omega.{arith}
+use lib.ListN.{length, take, drop, length-drop, drop-of-length-le}
+use lib.Seq.{take-append-le, drop-append-le, take-all}
+use Rattle.rules.specs.Record.{recordBytes, recordAnswer}
+use Rattle.rules.specs.Text.{line, recordsUpTo, linesFrom, mostRecords, textFrom}
+
+-- no bytes hold no record
+records-none : (most : ℕ) → recordsUpTo most [] ≡ []
+unfolding recordsUpTo
+records-none zero = refl
+records-none (suc most) = refl
+
+-- the records of whole records that are followed by other bytes
+records-append : (whole most : ℕ) (a b : List ℕ) → length a ≡ whole * recordBytes
+    → recordsUpTo most (a ++ b) ≡ recordsUpTo most a ++ recordsUpTo (most - whole) b
+unfolding recordsUpTo
+records-append zero most [] b e = rw (records-none most, sub-zero)
+records-append zero most (x ∷ a) b e = absurd (omega arith)
+records-append (suc whole) zero a b e = rw zero-sub
+records-append (suc whole) (suc most) [] b e = absurd (omega arith)
+records-append (suc whole) (suc most) (x ∷ a) b e =
+    let r = x ∷ a in
+    let left : suc most - suc whole ≡ most - whole = omega arith in
+    rw (left, take-append-le recordBytes r b (omega arith), drop-append-le recordBytes r b (omega arith))
+    (ap (λ (rs : List (List ℕ)). take recordBytes r ∷ rs) (records-append whole most (drop recordBytes r) b (rw length-drop (omega arith))))
+
+-- how many there are
+records-count : (whole most : ℕ) (a : List ℕ) → length a ≡ whole * recordBytes → length (recordsUpTo most a) ≡ min most whole
+unfolding recordsUpTo
+records-count zero most [] e = rw (records-none most) (omega arith)
+records-count zero most (x ∷ a) e = absurd (omega arith)
+records-count (suc whole) zero a e = omega arith
+records-count (suc whole) (suc most) [] e = absurd (omega arith)
+records-count (suc whole) (suc most) (x ∷ a) e =
+    omega (arith, records-count whole most (drop recordBytes (x ∷ a)) (rw length-drop (omega arith)))
+
+-- the lines of records that are followed by others
+lines-append : (number : ℕ) (rs ss : List (List ℕ)) → linesFrom number (rs ++ ss) ≡ linesFrom number rs ++ linesFrom (number + length rs) ss
+unfolding linesFrom
+lines-append number [] ss = rw add-zero
+lines-append number (r ∷ rs) ss =
+    let e : number + suc (length rs) ≡ suc number + length rs = omega arith in
+    rw (e, append-assoc) (ap (λ (t : List ℕ). line number (recordAnswer r) ++ t) (lines-append (suc number) rs ss))
+
+-- past the last record nothing is printed
+pub text-stops : (number : ℕ) (bytes : List ℕ) → mostRecords ≤ number → textFrom number bytes ≡ []
+unfolding textFrom recordsUpTo linesFrom
+text-stops number bytes l =
+    let e : mostRecords - number ≡ 0 = omega arith in
+    rw e
+
+-- "empty input prints nothing"
+pub text-none : (number : ℕ) → textFrom number [] ≡ []
+unfolding textFrom linesFrom
+text-none number = rw (records-none (mostRecords - number))
+
+-- one record, which may be short, has its line
+pub text-one : (number : ℕ) (r : List ℕ) → number < mostRecords → 0 < length r → length r ≤ recordBytes → textFrom number r ≡ line number (recordAnswer r)
+unfolding textFrom recordsUpTo linesFrom
+text-one number [] l some short = absurd (omega arith)
+text-one number (x ∷ xs) l some short =
+    let e : mostRecords - number ≡ suc (mostRecords - suc number) = omega arith in
+    rw
+    (e, take-all recordBytes (x ∷ xs) short, drop-of-length-le (x ∷ xs) short, records-none (mostRecords - suc number))
+    (append-nil (line number (recordAnswer (x ∷ xs))))
+
+-- any cutting of bytes after whole records gives one text
+pub text-append : (number whole : ℕ) (a b : List ℕ) → length a ≡ whole * recordBytes
+    → textFrom number (a ++ b) ≡ textFrom number a ++ textFrom (number + whole) b
+unfolding textFrom recordsUpTo linesFrom
+text-append number whole a b e =
+    rw (records-append whole most a b e)
+    (lines-append number (recordsUpTo most a) (recordsUpTo (most - whole) b)
+    ∙ ap (λ (t : List ℕ). linesFrom number (recordsUpTo most a) ++ t) (go (decLe whole most)))
+  where
+    most : ℕ
+    most = mostRecords - number
+
+    go : Dec (whole ≤ most) → linesFrom (number + length (recordsUpTo most a)) (recordsUpTo (most - whole) b) ≡ textFrom (number + whole) b
+    go (yes all) =
+        let next : number + length (recordsUpTo most a) ≡ number + whole = omega (arith, records-count whole most a e) in
+        let left : most - whole ≡ mostRecords - (number + whole) = omega arith in
+        rw (next, left)
+    go (no more) =
+        let none : most - whole ≡ 0 = omega arith in
+        rw none (sym (text-stops (number + whole) b (omega arith)))

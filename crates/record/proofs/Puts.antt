@@ -1,0 +1,58 @@
+-- Text put into a buffer in turn: nothing, a byte more, a text behind another.
+use Prim.Native.Nat.{ℕ, _+_, _-_, _^_, _≤_, _<_}
+use mathlib.Core.Path.{_≡_, refl, _∙_, ap}
+use mathlib.Core.List.{List, [], _∷_, _++_}
+use native.Mathlib.Omega.{arith}
+use lib.ListN.{length, set, replicate, length-append}
+use lib.Seq.{length-sets}
+use Rattle.rules.specs.Text.{space, decimal}
+use Rattle.laws.specs.Digits.{decimal-length}
+use Rattle.laws.specs.Stores.{sets-append, sets-replicate}
+use Rattle.record.specs.Lines.{Put, Within, longest, padded}
+use Rattle.record.specs.declared.text.Line.{Line}
+
+pub put-none : (out : List ℕ) (at : ℕ) → Put out at [] at out
+put-none out at = record { ends = omega arith; holds = refl }
+
+module _ {before : List ℕ} {at : ℕ} {text : List ℕ} {end : ℕ} {after : List ℕ} (put : Put before at text end after) where
+  -- the buffer keeps its length
+  pub put-length : length after ≡ length before
+  put-length = ap length (put .holds) ∙ length-sets before at text
+
+  -- a text behind it
+  pub put-then : {more : List ℕ} {last : ℕ} {whole : List ℕ} → Put after end more last whole → Put before at (text ++ more) last whole
+  put-then {more} next =
+      record {
+        ends = omega (arith, next .ends, put .ends, length-append text more);
+        holds = next .holds ∙ rw (put .holds, put .ends) (sets-append before at text more);
+      }
+
+  -- a byte behind it
+  pub put-byte : (b : ℕ) → Put before at (text ++ (b ∷ [])) (end + 1) (set after end b)
+  put-byte b = put-then (record { ends = refl; holds = refl })
+
+-- a 32-bit number has at most 10 digits
+pub ten-digits : (v : ℕ) → v < 2 ^ 32 → length (decimal v) ≤ 10
+ten-digits v l = decimal-length 9 v (omega arith)
+
+pub spaced-short : (v : ℕ) → v < 2 ^ 32 → length (space ++ decimal v) ≤ 11
+spaced-short v l = omega (arith, ten-digits v l)
+
+module _ {most : ℕ} {before : List ℕ} {at : ℕ} {text : List ℕ} {end : ℕ} {after : List ℕ} (part : Within most before at text end after) where
+  -- a text behind it
+  pub within-then : {more : List ℕ} {last : ℕ} {whole : List ℕ} (k : ℕ) → Put after end more last whole → length more ≤ k
+      → Within (most + k) before at (text ++ more) last whole
+  within-then {more} k next l =
+      record { put = put-then (part .put) next; short = omega (arith, part .short, length-append text more) }
+
+  -- what room it leaves
+  pub room-left : {room : ℕ} (k : ℕ) → at + room ≤ length before → most + k ≤ room → end + k ≤ length after
+  room-left k fits l = omega (arith, part .short, part .put .ends, put-length (part .put))
+
+-- a line put into zeros, by value
+pub padded-line : {text : List ℕ} {end : ℕ} {after : List ℕ} → Within longest (replicate longest 0) 0 text end after
+    → _≡_ {A = Line} (record { bytes = after; len = end }) (padded text)
+padded-line {text} {end} {after} line =
+    let len : end ≡ length text = omega (arith, line .put .ends) in
+    let bytes : after ≡ text ++ replicate (longest - length text) 0 = line .put .holds ∙ sets-replicate longest 0 text (line .short) in
+    λ i. record { bytes = bytes i; len = len i }

@@ -1,0 +1,17 @@
+-- No second answer: of each public function, two results that meet its contract are equal.
+-- The contracts are those of src/ themselves, as the check reads them: a weaker one has no such theorem.
+use Rattle.laws.specs.Answers.{OneResult, one-answer}
+use Rattle.record.specs.Unique.{answer-injective}
+use Rattle.record.proofs.read.read.Reads as read
+use Rattle.record.proofs.text.found_line.Reads as found-line
+use Rattle.record.proofs.text.refused_line.Reads as refused-line
+
+pub read-unique : OneResult read.Learnt
+read-unique κs a r s v w p q = answer-injective r s (one-answer (p .0) (q .0)) (one-answer (p .1) (q .1))
+
+-- the line says nothing of d and x, so that any do
+pub found-line-unique : OneResult found-line.Learnt
+found-line-unique κs a r s v w p q = one-answer (p 0 0) (q 0 0)
+
+pub refused-line-unique : OneResult refused-line.Learnt
+refused-line-unique κs a r s v w p q = one-answer p q

@@ -1,0 +1,32 @@
+-- What the contracts of a line speak of: text put into a buffer, the answer of a finished decoding, and a line by value.
+use Prim.Native.Nat.{ℕ, _+_, _-_, _≤_}
+use mathlib.Core.Path.{_≡_}
+use mathlib.Core.List.{List, _++_}
+use lib.ListN.{length, replicate}
+use lib.Seq.{sets}
+use Rattle.rules.specs.Refusals.{Answer, done}
+use Rattle.rules.specs.Answers.{Decoded}
+use Rattle.record.specs.declared.text.Line.{Line}
+
+-- a text is put into a buffer at a place: where it ends, and the whole buffer afterwards
+pub record Put (before : List ℕ) (at : ℕ) (text : List ℕ) (end : ℕ) (after : List ℕ) : Type 0 where
+  pub ends : end ≡ at + length text
+  pub holds : after ≡ sets before at text
+
+-- and it is not longer than so many bytes
+pub record Within (most : ℕ) (before : List ℕ) (at : ℕ) (text : List ℕ) (end : ℕ) (after : List ℕ) : Type 0 where
+  pub put : Put before at text end after
+  pub short : length text ≤ most
+
+-- the answer of a finished decoding
+abbrev pub found : ℕ → ℕ → ℕ → ℕ → ℕ → Answer Decoded
+found message d x distance visits =
+    done (record { message = message; d = d; x = x; distance = distance; visits = visits })
+
+-- the bytes of the longest line, whose numbers have 10 digits
+abbrev pub longest : ℕ
+longest = 56
+
+-- a line by value: its bytes, zeros behind them, and its length
+abbrev pub padded : List ℕ → Line
+padded text = record { bytes = text ++ replicate (longest - length text) 0; len = length text }

@@ -1,0 +1,70 @@
+// The line of an answer: written into a lent buffer from a place on, or given as a struct by value.
+ghost use mathlib.Core.Path.{_≡_};
+ghost use Prim.Native.Nat.{ℕ, _+_, _≤_};
+ghost use lib.ListN.{length};
+ghost use Rattle.rules.specs.Text.{line};
+ghost use Rattle.rules.specs.Refusals as rules;
+ghost use Rattle.refusal.specs.Number.{refusalOf};
+ghost use Rattle.word.specs.Words.{wordOf};
+ghost use Rattle.record.specs.Lines.{Within, found, longest, padded};
+use crate::put::put_bytes;
+use crate::put::put_decimal;
+use crate::put::put_hex;
+use crate::put::put_spaced;
+use refusal::Refusal;
+use word::Word;
+
+// A line with zeros behind it; the longest has 56 bytes.
+pub struct Line {
+    pub bytes: [u8; 56],
+    pub len: usize,
+}
+
+// The line of a finished decoding.
+pub(crate) fn put_found(
+    out: &mut [u8],
+    at: usize,
+    number: u32,
+    message: Word,
+    distance: u32,
+    visits: u32,
+) -> usize
+    requires { ⌜ at + longest ≤ length (now out) ⌝ }
+    ensures { λ r. ⌜ ((d x : ℕ) → Within longest (now (out .entry)) at (line number (found (wordOf message) d x distance visits)) r (now (out .exit))) ⌝ }
+{
+    let at = put_decimal(out, at, number as u64);
+    let at = put_bytes(out, at, b" found ");
+    let at = put_hex(out, at, message);
+    let at = put_spaced(out, at, distance as u64);
+    let at = put_spaced(out, at, visits as u64);
+    put_bytes(out, at, b"\n")
+}
+
+// The line of a refusal.
+pub(crate) fn put_refused(out: &mut [u8], at: usize, number: u32, refusal: Refusal) -> usize
+    requires { ⌜ at + longest ≤ length (now out) ⌝ }
+    ensures { λ r. ⌜ Within longest (now (out .entry)) at (line number (rules.refused (refusalOf refusal))) r (now (out .exit)) ⌝ }
+{
+    let at = put_decimal(out, at, number as u64);
+    let at = put_bytes(out, at, b" refused");
+    let at = put_spaced(out, at, refusal::number(refusal) as u64);
+    put_bytes(out, at, b"\n")
+}
+
+// The line of a finished decoding, by value.
+pub fn found_line(number: u32, message: Word, distance: u32, visits: u32) -> Line
+    ensures { λ r. ⌜ ((d x : ℕ) → r ≡ padded (line number (found (wordOf message) d x distance visits))) ⌝ }
+{
+    let mut bytes = [0u8; 56];
+    let len = put_found(&mut bytes, 0, number, message, distance, visits);
+    Line { bytes, len }
+}
+
+// The line of a refusal, by value.
+pub fn refused_line(number: u32, refusal: Refusal) -> Line
+    ensures { λ r. ⌜ r ≡ padded (line number (rules.refused (refusalOf refusal))) ⌝ }
+{
+    let mut bytes = [0u8; 56];
+    let len = put_refused(&mut bytes, 0, number, refusal);
+    Line { bytes, len }
+}
