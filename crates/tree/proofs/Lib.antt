@@ -14,3 +14,4 @@ pub mod Searching
 pub mod Emptiness
 pub mod Found
 pub mod Checks
+pub mod Unique

@@ -6,3 +6,4 @@ pub mod States
 pub mod Nodes
 pub mod Reading
 pub mod Search
+pub mod Unique
