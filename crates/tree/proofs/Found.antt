@@ -51,7 +51,7 @@ module _ (n mask folding allowance : ℕ) (levels : List ℤ) (end : Walked) whe
   finished =
       record {
         kept = best (wordDistance n (levelCost levels) (leastWord n mask (levelCost levels))) (leastWord n mask (levelCost levels));
-        visits = walkVisits n mask (levelCost levels) folding
+        visits = walkVisits n mask (levelCost levels) folding;
       }
 
   -- what the walk ended with, within the allowance
@@ -83,8 +83,8 @@ module _ (n mask folding allowance : ℕ) (levels : List ℤ) (end : Walked) whe
         let d = leastWord n mask (levelCost levels) in
         let m : message ≡ gather n mask d = isMessage ∙ ap (λ (k : ℕ). gather k mask (end .word)) own ∙ ap (gather n mask) (kept .word) in
         let c : x ≡ codeword n d =
-          isCode ∙ ap (codeword 6) (kept .word)
-          ∙ codeword-longer n 6 d small (permitted-lt n mask d (leastWord-least n mask (levelCost levels) .allowed))
+        isCode ∙ ap (codeword 6) (kept .word)
+        ∙ codeword-longer n 6 d small (permitted-lt n mask d (leastWord-least n mask (levelCost levels) .allowed))
         in
         let v : end .visits ≡ walkVisits n mask (levelCost levels) folding = ap (λ (s : State keepBest). s .visits) (parts .1) in
         λ i. record { message = m i; d = kept .word i; x = c i; distance = kept .distance i; visits = v i }

@@ -16,3 +16,4 @@ pub mod Found
 pub mod Checks
 pub mod Demand3
 pub mod LeastAnswer
+pub mod Unique

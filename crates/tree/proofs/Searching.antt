@@ -54,7 +54,7 @@ module _ {n : ℕ} {levels : List ℤ} {folding : ℕ} (given : Searchable n lev
       record {
         within = omega (arith, all-slots, pow-mono {j = 6} (given .small));
         held = λ t h. rw (zero-add t, index-at seated t (rw all-slots at h), given .long) (seat-below n folding (given .fits) t (rw all-slots at h));
-        ranged = λ t h. rw (zero-add t, index-at seated t (rw all-slots at h)) (given .ranged _ (seat-below n folding (given .fits) t (rw all-slots at h)))
+        ranged = λ t h. rw (zero-add t, index-at seated t (rw all-slots at h)) (given .ranged _ (seat-below n folding (given .fits) t (rw all-slots at h)));
       }
 
   module _ (table : List (List ℕ)) (right : RowsRight levels index many size table) where
@@ -87,7 +87,7 @@ module _ {n : ℕ} {levels : List ℤ} {folding : ℕ} (given : Searchable n lev
           inside = rw (isSize, isN) (omega (arith, all-slots));
           near = rw isSize (λ k j hk hj. omega (arith, row-bound (seatCost levels index (k * size)) size most size-le (cheap k hk) _ (entry-in k j hk hj)));
           narrow = rw isSize (λ k j hk hj. narrow k j hk hj);
-          copied = rw isSize copied
+          copied = rw isSize copied;
         }
       where
         narrow : (k j : ℕ) → k < many → j < 2 ^ size → entryAt table size k j % 256 < 2 ^ size
@@ -124,7 +124,7 @@ module _ {n : ℕ} {levels : List ℤ} {folding : ℕ} (given : Searchable n lev
           ≡ cond (ltb (tree .allowance) (walkVisits n mask (levelCost levels) folding)) none
           (some (record {
             kept = best (wordDistance n (levelCost levels) (leastWord n mask (levelCost levels))) (leastWord n mask (levelCost levels));
-            visits = walkVisits n mask (levelCost levels) folding
+            visits = walkVisits n mask (levelCost levels) folding;
           }))
       walked =
           ap₂ (λ f m. walkIn keepBest (tree .allowance) f m 0 0 (some empty)) (fun-ext (λ k. fun-ext (λ d. same-candidates k d))) groups-are

@@ -87,9 +87,14 @@ module _ {table : List (List ℕ)} {index covered : List ℕ} {tree : Tree} {k p
       go : Dec (k < groups (tree .n) (tree .folding)) → k < groups (tree .n) (tree .folding)
       go (yes h) = h
       go (no h) =
-          absurd (omega (arith, some-size, given .rows .inside, suc-mul k (tree .size),
-          mul-le-mul-right {m = groups (tree .n) (tree .folding)} {n = k} (tree .size) (omega arith),
-          ap (λ (z : ℕ). groups (tree .n) (tree .folding) * z) sized ∙ groups-all (tree .n) (tree .folding) (given .seated .fits)))
+          absurd (omega (
+            arith,
+            some-size,
+            given .rows .inside,
+            suc-mul k (tree .size),
+            mul-le-mul-right {m = groups (tree .n) (tree .folding)} {n = k} (tree .size) (omega arith),
+            ap (λ (z : ℕ). groups (tree .n) (tree .folding) * z) sized ∙ groups-all (tree .n) (tree .folding) (given .seated .fits),
+          ))
 
   -- a block as the code reads it
   pub block-is : (w r : ℕ) → r ≡ w / 2 ^ (k * tree .size) % 2 ^ min (tree .size) 8 → r ≡ blockOf (tree .size) k w
@@ -168,25 +173,25 @@ module _ {table : List (List ℕ)} {index covered : List ℕ} {tree : Tree} {k p
         record {
           seated = given .seated;
           rows =
-            record {
-              sized = sized;
-              few = given .rows .few;
-              inside = omega (arith, given .rows .inside, suc-mul k (tree .size));
-              near = λ i e l m. given .rows .near i e (omega arith) m;
-              narrow = λ i e l m. given .rows .narrow i e (omega arith) m;
-              copied = λ i l. given .rows .copied i (omega arith)
-            };
+              record {
+                sized = sized;
+                few = given .rows .few;
+                inside = omega (arith, given .rows .inside, suc-mul k (tree .size));
+                near = λ i e l m. given .rows .near i e (omega arith) m;
+                narrow = λ i e l m. given .rows .narrow i e (omega arith) m;
+                copied = λ i l. given .rows .copied i (omega arith);
+              };
           begun =
-            record {
-              word = rw (next-word next isNext) (rw (← sized) at (down .small));
-              empty = rw (next-word next isNext) (rw (← sized) at (down .clear));
-              code =
-                isCode
-                ∙ ap₂ bitXor (given .begun .code) (mul-comm (getD covered k 0) own ∙ ap₂ (λ (a b : ℕ). a * b) (sym (short .1)) copied)
-                ∙ sym (rw (← sized) at (down .code)) ∙ ap (codeword (tree .n)) (sym (next-word next isNext));
-              room = omega (arith, given .rows .near k j (omega arith) h, given .begun .room, suc-mul k (tree .size * most))
-            };
-          running = running
+              record {
+                word = rw (next-word next isNext) (rw (← sized) at (down .small));
+                empty = rw (next-word next isNext) (rw (← sized) at (down .clear));
+                code =
+                    isCode
+                    ∙ ap₂ bitXor (given .begun .code) (mul-comm (getD covered k 0) own ∙ ap₂ (λ (a b : ℕ). a * b) (sym (short .1)) copied)
+                    ∙ sym (rw (← sized) at (down .code)) ∙ ap (codeword (tree .n)) (sym (next-word next isNext));
+                room = omega (arith, given .rows .near k j (omega arith) h, given .begun .room, suc-mul k (tree .size * most));
+              };
+          running = running;
         }
 
     -- its word in index order is this node's with the candidate's filling

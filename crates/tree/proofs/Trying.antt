@@ -138,8 +138,8 @@ module _ {rows : List (List ℕ)} {index covered : List ℕ} {tree : Tree} {left
               tried = omega (arith, below);
               running = t .running;
               same =
-                ap (λ (cs : List Candidate). trial rows tree k partial d cs (stateOf s)) (sym (rest-shut rows _ _ _ k _ _ j below (test-right r test ∙ q)))
-                ∙ t .same
+                  ap (λ (cs : List Candidate). trial rows tree k partial d cs (stateOf s)) (sym (rest-shut rows _ _ _ k _ _ j below (test-right r test ∙ q)))
+                  ∙ t .same;
             }
 
         module _ (q : r ≡ true) where
@@ -200,7 +200,7 @@ module _ {rows : List (List ℕ)} {index covered : List ℕ} {tree : Tree} {left
                     shut-is = t .shut-is;
                     tried = omega (arith, below);
                     running = still;
-                    same = onwards
+                    same = onwards;
                   }
 
 -- a node with no level left keeps the word or not
@@ -238,7 +238,7 @@ module _ {rows : List (List ℕ)} {index covered : List ℕ} {tree : Tree} {left
         tried = omega arith;
         running = given .running;
         same =
-          ap (λ (cs : List Candidate). trial rows tree (left - 1) partial d cs (stateOf s)) (sym (here given-next))
-          ∙ sym (walk-node keepBest (tree .allowance) (rowCandidates rows tree) (left - 1) partial (wordAt tree d) (stateOf s))
-          ∙ ap (λ (l : ℕ). under rows tree l partial (wordAt tree d) (stateOf s)) (sym levels-left)
+            ap (λ (cs : List Candidate). trial rows tree (left - 1) partial d cs (stateOf s)) (sym (here given-next))
+            ∙ sym (walk-node keepBest (tree .allowance) (rowCandidates rows tree) (left - 1) partial (wordAt tree d) (stateOf s))
+            ∙ ap (λ (l : ℕ). under rows tree l partial (wordAt tree d) (stateOf s)) (sym levels-left);
       }

@@ -39,12 +39,12 @@ module _ (l : List ℕ) (m step : ℕ) where
           same = lib.ListN.length-set index (m + p) _ ∙ turns .same;
           inside = omega arith;
           filled =
-            rw (add-one p, add-suc m p, take-suc-set index (m + p) (getD index p 0 + step) (omega (arith, turns .same)))
-            (ap₂ (λ (x y : List ℕ). x ++ y) (turns .filled)
-            (ap (λ (v : ℕ). v ∷ []) (ap (λ (x : ℕ). x + step) (still p h)))
-            ∙ append-assoc (take m l) (take p stepped) _
-            ∙ ap (λ (x : List ℕ). take m l ++ x) (sym (take-suc stepped p (0 + step) (omega (arith, lengths, length-map (take m l) (λ i. i + step)))
-            ∙ ap (λ (v : ℕ). take p stepped ++ (v ∷ [])) (List·getD-map (λ i. i + step) (take m l) p 0 ∙ ap (λ (x : ℕ). x + step) (getD-take m l p 0 h)))))
+              rw (add-one p, add-suc m p, take-suc-set index (m + p) (getD index p 0 + step) (omega (arith, turns .same)))
+              (ap₂ (λ (x y : List ℕ). x ++ y) (turns .filled)
+              (ap (λ (v : ℕ). v ∷ []) (ap (λ (x : ℕ). x + step) (still p h)))
+              ∙ append-assoc (take m l) (take p stepped) _
+              ∙ ap (λ (x : List ℕ). take m l ++ x) (sym (take-suc stepped p (0 + step) (omega (arith, lengths, length-map (take m l) (λ i. i + step)))
+              ∙ ap (λ (v : ℕ). take p stepped ++ (v ∷ [])) (List·getD-map (λ i. i + step) (take m l) p 0 ∙ ap (λ (x : ℕ). x + step) (getD-take m l p 0 h)))));
         }
 
   -- after m turns the indices are widened

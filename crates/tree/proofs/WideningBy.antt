@@ -33,8 +33,8 @@ pub widened-room : (m : ℕ) (test : ℕ → Bool) (n b many : ℕ) → m * 2 ^ 
     → many + many ≤ 64
 widened-room m test n b many room before passes counted =
     let doubled : m * 2 ^ countBelow (suc b) test ≡ many * 2 =
-      ap (λ (k : ℕ). m * 2 ^ k) (count-passing test b passes) ∙ ap (λ (x : ℕ). m * x) (pow-suc 2 (countBelow b test))
-      ∙ sym (mul-assoc m (2 ^ countBelow b test) 2) ∙ ap (λ (x : ℕ). x * 2) (sym counted)
+    ap (λ (k : ℕ). m * 2 ^ k) (count-passing test b passes) ∙ ap (λ (x : ℕ). m * x) (pow-suc 2 (countBelow b test))
+    ∙ sym (mul-assoc m (2 ^ countBelow b test) 2) ∙ ap (λ (x : ℕ). x * 2) (sym counted)
     in
     omega (arith, mul-le-mul-left m (pow-mono (count-mono test before)))
 
@@ -53,13 +53,13 @@ module _ (l : List ℕ) (m : ℕ) (test : ℕ → Bool) where
         (record {
           same = same ∙ before .same;
           counted =
-            ap (λ (x : ℕ). x * 2) (before .counted) ∙ mul-assoc m (2 ^ countBelow b test) 2
-            ∙ ap (λ (x : ℕ). m * x) (sym (pow-suc 2 (countBelow b test)))
-            ∙ ap (λ (k : ℕ). m * 2 ^ k) (sym (count-passing test b passes));
+              ap (λ (x : ℕ). x * 2) (before .counted) ∙ mul-assoc m (2 ^ countBelow b test) 2
+              ∙ ap (λ (x : ℕ). m * x) (sym (pow-suc 2 (countBelow b test)))
+              ∙ ap (λ (k : ℕ). m * 2 ^ k) (sym (count-passing test b passes));
           listed =
-            rw passes
-            (ap (λ (k : ℕ). take k next) twice ∙ doubled ∙ ap (λ (x : List ℕ). widened x (2 ^ b)) (before .listed));
-          small = λ c at q h. small c at q (omega (arith, twice)) (decLt q many)
+              rw passes
+              (ap (λ (k : ℕ). take k next) twice ∙ doubled ∙ ap (λ (x : List ℕ). widened x (2 ^ b)) (before .listed));
+          small = λ c at q h. small c at q (omega (arith, twice)) (decLt q many);
         })
       where
         twice : many * 2 ≡ many + many
@@ -84,9 +84,14 @@ module _ (l : List ℕ) (m : ℕ) (test : ℕ → Bool) where
             omega (arith, at q h, List·getD-append (take many index) stepped 0 q (omega (arith, lengths)), getD-take many index q 0 low, before .small c given q low)
         small c given q h (no high) =
             let e : q ≡ length (take many index) + (q - many) = omega (arith, lengths) in
-            omega
-            (arith, at q h, ap (λ (k : ℕ). getD (take many index ++ stepped) k 0) e, getD-append-add (take many index) stepped (q - many) 0,
-            past (q - many) (omega arith), before .small c given (q - many) (omega arith))
+            omega (
+              arith,
+              at q h,
+              ap (λ (k : ℕ). getD (take many index ++ stepped) k 0) e,
+              getD-append-add (take many index) stepped (q - many) 0,
+              past (q - many) (omega arith),
+              before .small c given (q - many) (omega arith),
+            )
 
     -- a bit that does not
     pub widened-failing : test b ≡ false → Widened l m test (b + 1) index many
@@ -97,7 +102,7 @@ module _ (l : List ℕ) (m : ℕ) (test : ℕ → Bool) where
           same = before .same;
           counted = before .counted ∙ ap (λ (k : ℕ). m * 2 ^ k) (sym (count-failing test b fails));
           listed = rw fails (before .listed);
-          small = λ c given q h. omega (arith, before .small c given q h)
+          small = λ c given q h. omega (arith, before .small c given q h);
         })
 
 -- a step within the word, as the machine shifts it

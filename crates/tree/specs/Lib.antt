@@ -8,3 +8,4 @@ pub mod Reading
 pub mod Search
 pub mod LeastAnswer
 pub mod Demand3
+pub mod Unique

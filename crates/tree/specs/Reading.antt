@@ -13,7 +13,7 @@ decodedOf found =
       d = wordOf (found .d);
       x = wordOf (found .x);
       distance = found .distance;
-      visits = found .visits
+      visits = found .visits;
     }
 
 abbrev pub answerOf : a.Answer → Answer rules.Decoded

@@ -112,7 +112,17 @@ fn node(
                 return s;
             }
             let next = word::xor(d, word::block::above(filling, at));
-            s = node(rows, index, covered, tree, k, total, next, coded(x, covered, k, own), s);
+            s = node(
+                rows,
+                index,
+                covered,
+                tree,
+                k,
+                total,
+                next,
+                coded(x, covered, k, own),
+                s,
+            );
             if s.stopped {
                 return s;
             }
@@ -123,7 +133,13 @@ fn node(
 }
 
 // The walk from the first level, with no best word.
-pub(crate) fn walk(rows: &[[u64; 256]; 8], index: &[usize; 64], covered: &[Word; 64], tree: Tree, left: usize) -> Walked
+pub(crate) fn walk(
+    rows: &[[u64; 256]; 8],
+    index: &[usize; 64],
+    covered: &[Word; 64],
+    tree: Tree,
+    left: usize,
+) -> Walked
     requires { ⌜ Seated (now index) (tree .n) (tree .folding) × Table (now rows) (now covered) tree left ⌝ }
     ensures { λ r. ⌜ stateOf r ≡ walkIn keepBest (tree .allowance) (rowCandidates (now (rows .entry)) tree) left 0 0 (some empty) ⌝ }
 {

@@ -1,12 +1,16 @@
 // Border cases of every public call, and the rows of document 01 that are not starred: a line for each case, with what was
 // given and what came. What must come is in the file `stdout`, which is written from document 01 and not by this program.
 mod codes;
+mod decoding;
 mod encoding;
 mod text;
+mod words;
 
 fn main() {
     codes::new();
     codes::guard();
     encoding::encode();
     encoding::encode_levels();
+    decoding::decode();
+    words::words();
 }

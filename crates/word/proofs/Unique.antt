@@ -8,6 +8,9 @@ use Rattle.word.proofs.bit.Reads as bit
 use Rattle.word.proofs.put.Reads as put
 use Rattle.word.proofs.xor.Reads as xor
 use Rattle.word.proofs.less.Reads as less
+use Rattle.word.proofs.block.block.Reads as block
+use Rattle.word.proofs.block.above.Reads as above
+use Rattle.word.proofs.block.copies.Reads as copies
 use Rattle.word.proofs.matrix.map_byte.Reads as map-byte
 use Rattle.word.proofs.matrix.map.Reads as map
 use Rattle.word.proofs.message.spread.Reads as spread
@@ -35,6 +38,15 @@ xor-unique κs a r s v w p q = word-injective r s (one-answer p q)
 
 pub less-unique : OneResult less.Learnt
 less-unique κs a r s v w p q = one-answer p q
+
+pub block-unique : OneResult block.Learnt
+block-unique κs a r s v w p q = one-answer p q
+
+pub above-unique : OneResult above.Learnt
+above-unique κs a r s v w p q = word-injective r s (one-answer p q)
+
+pub copies-unique : OneResult copies.Learnt
+copies-unique κs a r s v w p q = word-injective r s (one-answer p q)
 
 pub map-byte-unique : OneResult map-byte.Learnt
 map-byte-unique κs a r s v w p q = one-answer p q

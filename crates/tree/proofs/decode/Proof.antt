@@ -36,9 +36,11 @@ returns-3 : tie.Need-returns-3
 unfolding decodeAnswer treeOrder
 returns-3 c =
     let right = sym (c .before .before .before .before .before .wrong-size .ensures) ∙ c .before .before .before .before .if1 .left in
-    rw
-    (right, length-right _ _ (c .before .before .if2 .left ∙ slots-right _ right _ (c .before .before .before .slots .ensures)),
-    mask-test _ right _ _ _ (c .before .before .before .slots .ensures) (c .before .reaches .ensures) ∙ c .if3 .taken)
+    rw (
+      right,
+      length-right _ _ (c .before .before .if2 .left ∙ slots-right _ right _ (c .before .before .before .slots .ensures)),
+      mask-test _ right _ _ _ (c .before .before .before .slots .ensures) (c .before .reaches .ensures) ∙ c .if3 .taken,
+    )
 
 shl-if4 : tie.Need-shl-if4
 shl-if4 c = omega (arith, size-le (c .before .before .before .before .before .before .args .n) (sym (c .before .before .before .before .before .wrong-size .ensures) ∙ c .before .before .before .before .if1 .left))
@@ -76,9 +78,14 @@ returns-6 c =
     let few = le-ltb _ _ (rw (c .before .before .before .folding-size .ensures) at (c .before .before .if5 .left)) in
     let all = slots-right _ right _ (c .before .before .before .before .before .before .before .before .slots .ensures) in
     let whole = c .before .before .before .before .before .before .before .if2 .left ∙ all in
-    rw
-    (right, long, clear, inside, few,
-    ap (refuseAt 6) (range-wrong (c .before .before .before .before .before .before .before .before .before .before .before .args .levels .now) (2 ^ (c .before .before .before .before .before .before .before .before .before .before .before .args .n)) (c .before .first-out-of-range .result) whole (c .before .first-out-of-range .ensures) (rw all at (c .if6 .taken))))
+    rw (
+      right,
+      long,
+      clear,
+      inside,
+      few,
+      ap (refuseAt 6) (range-wrong (c .before .before .before .before .before .before .before .before .before .before .before .args .levels .now) (2 ^ (c .before .before .before .before .before .before .before .before .before .before .before .args .n)) (c .before .first-out-of-range .result) whole (c .before .first-out-of-range .ensures) (rw all at (c .if6 .taken))),
+    )
 
 search-requires : tie.Need-search-requires
 search-requires c κs =
@@ -90,7 +97,7 @@ search-requires c κs =
       long = whole;
       fits = rw (folding-shifted _ (size-le _ right)) at (c .before .before .before .before .if4 .left);
       few = rw (c .before .before .before .folding-size .ensures) at (c .before .before .if5 .left);
-      ranged = in-range (c .before .before .before .before .before .before .before .before .before .before .before .args .levels .now) (2 ^ (c .before .before .before .before .before .before .before .before .before .before .before .args .n)) (c .before .first-out-of-range .result) whole (c .before .first-out-of-range .ensures) (rw all at (c .if6 .left))
+      ranged = in-range (c .before .before .before .before .before .before .before .before .before .before .before .args .levels .now) (2 ^ (c .before .before .before .before .before .before .before .before .before .before .before .args .n)) (c .before .first-out-of-range .result) whole (c .before .first-out-of-range .ensures) (rw all at (c .if6 .left));
     }
 
 returns-7 : tie.Need-returns-7
@@ -105,9 +112,14 @@ returns-7 c =
     let whole = c .before .before .before .before .before .before .before .before .if2 .left ∙ all in
     c .search .ensures
     ∙ sym
-    (rw
-    (right, long, clear, inside, few,
-    ap (refuseAt 6) (range-right (c .before .before .before .before .before .before .before .before .before .before .before .before .args .levels .now) (2 ^ (c .before .before .before .before .before .before .before .before .before .before .before .before .args .n)) (c .before .before .first-out-of-range .result) whole (c .before .before .first-out-of-range .ensures) (rw all at (c .before .if6 .left)))))
+    (rw (
+      right,
+      long,
+      clear,
+      inside,
+      few,
+      ap (refuseAt 6) (range-right (c .before .before .before .before .before .before .before .before .before .before .before .before .args .levels .now) (2 ^ (c .before .before .before .before .before .before .before .before .before .before .before .before .args .n)) (c .before .before .first-out-of-range .result) whole (c .before .before .first-out-of-range .ensures) (rw all at (c .before .if6 .left))),
+    ))
 
 pub decode-spec : {M : Type 1} → statement M
 decode-spec =

@@ -41,9 +41,10 @@ seated-requires c κs = c .before .seats .ensures
 first-empty-requires : tie.Need-first-empty-requires
 first-empty-requires c κs =
     let given = c .before .before .before .before .pre in
-    let sized = size-is _ _ (given .few) (c .before .before .before .folding-size .ensures) in
-    (rw sized (pow-mono {j = 3} (given .few)),
-    omega (arith, all-slots given (c .before .before .seats .ensures) _ _ sized refl, pow-mono {j = 6} (given .small)))
+    let sized = size-is _ _ (given .few) (c .before .before .before .folding-size .ensures) in (
+      rw sized (pow-mono {j = 3} (given .few)),
+      omega (arith, all-slots given (c .before .before .seats .ensures) _ _ sized refl, pow-mono {j = 6} (given .small)),
+    )
 
 returns : tie.Need-returns
 returns c =
@@ -51,8 +52,8 @@ returns c =
     let sized = size-is _ _ (given .few) (c .before .before .before .before .before .folding-size .ensures) in
     let seated = c .before .before .before .before .seats .ensures in
     let first =
-      c .before .first-empty .ensures _ _ _
-      (record { fits = given .fits; sized = sized; all = groups-are given seated _ _ sized refl; seated = c .before .before .seated .ensures })
+    c .before .first-empty .ensures _ _ _
+    (record { fits = given .fits; sized = sized; all = groups-are given seated _ _ sized refl; seated = c .before .before .seated .ensures })
     in
     answer-seven _ _ _ _ _ _ (first .named (c .if1 .taken))
 
@@ -81,12 +82,12 @@ returns-2 c =
     let sized = size-is _ _ (given .few) (c .before .before .before .before .before .before .before .before .before .before .before .before .before .folding-size .ensures) in
     let seated = c .before .before .before .before .before .before .before .before .before .before .before .before .seats .ensures in
     let first =
-      c .before .before .before .before .before .before .before .before .before .first-empty .ensures _ _ _
-      (record { fits = given .fits; sized = sized; all = groups-are given seated _ _ sized refl; seated = c .before .before .before .before .before .before .before .before .before .before .seated .ensures })
+    c .before .before .before .before .before .before .before .before .before .first-empty .ensures _ _ _
+    (record { fits = given .fits; sized = sized; all = groups-are given seated _ _ sized refl; seated = c .before .before .before .before .before .before .before .before .before .before .seated .ensures })
     in
     let ends =
-      c .before .walk .ensures
-      ∙ walked given seated _ _ sized refl _ (c .before .before .before .before .before .before .rows .ensures) _ _ refl refl refl (c .before .before .before .before .before .before .before .before .before .before .seated .ensures)
+    c .before .walk .ensures
+    ∙ walked given seated _ _ sized refl _ (c .before .before .before .before .before .before .rows .ensures) _ _ refl refl refl (c .before .before .before .before .before .before .before .before .before .before .seated .ensures)
     in
     answer-eight _ _ _ _ _ (first .absent (omega (arith, first .inside, c .before .before .before .before .before .before .before .before .if1 .left))) (used-up (c .before .before .before .before .before .before .before .before .before .before .before .before .before .before .args .n) (c .before .before .before .before .before .before .before .before .before .before .before .before .before .before .args .frozen) (c .before .before .before .before .before .before .before .before .before .before .before .before .before .before .args .folding) (c .before .before .before .before .before .before .before .before .before .before .before .before .before .before .args .allowance) (c .before .before .before .before .before .before .before .before .before .before .before .before .before .before .args .levels .now) (c .before .walk .result) ends (c .if2 .taken))
 
@@ -102,12 +103,12 @@ returns-3 c =
     let sized = size-is _ _ (given .few) (c .before .before .before .before .before .before .before .before .before .before .before .before .before .before .before .folding-size .ensures) in
     let seated = c .before .before .before .before .before .before .before .before .before .before .before .before .before .before .seats .ensures in
     let first =
-      c .before .before .before .before .before .before .before .before .before .before .before .first-empty .ensures _ _ _
-      (record { fits = given .fits; sized = sized; all = groups-are given seated _ _ sized refl; seated = c .before .before .before .before .before .before .before .before .before .before .before .before .seated .ensures })
+    c .before .before .before .before .before .before .before .before .before .before .before .first-empty .ensures _ _ _
+    (record { fits = given .fits; sized = sized; all = groups-are given seated _ _ sized refl; seated = c .before .before .before .before .before .before .before .before .before .before .before .before .seated .ensures })
     in
     let ends =
-      c .before .before .before .walk .ensures
-      ∙ walked given seated _ _ sized refl _ (c .before .before .before .before .before .before .before .before .rows .ensures) _ _ refl refl refl (c .before .before .before .before .before .before .before .before .before .before .before .before .seated .ensures)
+    c .before .before .before .walk .ensures
+    ∙ walked given seated _ _ sized refl _ (c .before .before .before .before .before .before .before .before .rows .ensures) _ _ refl refl refl (c .before .before .before .before .before .before .before .before .before .before .before .before .seated .ensures)
     in
     answer-found _ _ _ _ _ (first .absent (omega (arith, first .inside, c .before .before .before .before .before .before .before .before .before .before .if1 .left))) (enough (c .before .before .before .before .before .before .before .before .before .before .before .before .before .before .before .before .args .n) (c .before .before .before .before .before .before .before .before .before .before .before .before .before .before .before .before .args .frozen) (c .before .before .before .before .before .before .before .before .before .before .before .before .before .before .before .before .args .folding) (c .before .before .before .before .before .before .before .before .before .before .before .before .before .before .before .before .args .allowance) (c .before .before .before .before .before .before .before .before .before .before .before .before .before .before .before .before .args .levels .now) (c .before .before .before .walk .result) ends (c .before .before .if2 .left)) _
     (found-right (c .before .before .before .before .before .before .before .before .before .before .before .before .before .before .before .before .args .n) (c .before .before .before .before .before .before .before .before .before .before .before .before .before .before .before .before .args .frozen) (c .before .before .before .before .before .before .before .before .before .before .before .before .before .before .before .before .args .folding) (c .before .before .before .before .before .before .before .before .before .before .before .before .before .before .before .before .args .allowance) (c .before .before .before .before .before .before .before .before .before .before .before .before .before .before .before .before .args .levels .now) (c .before .before .before .walk .result) ends (c .before .before .if2 .left) (given .small) _ _ (c .before .gather .ensures) (c .map .ensures))

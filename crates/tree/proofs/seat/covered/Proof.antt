@@ -70,9 +70,11 @@ loop-again c =
     let given = c .before .before .before .before .pre in
     let inv = c .before .before .before .loop .inv in
     let one = c .before .put .ensures in
-    let inside : c .before .before .before .loop .k < length (c .before .before .before .loop .r) = omega (arith, inv .1, few-groups _ _ given) in
-    (omega arith, length-set (c .before .before .before .loop .r) _ _ ∙ inv .1,
-    next (c .before .before .before .loop .r) _ _ _ inside (c .map .ensures ∙ ap (codeword 6) (one ∙ lone _ (first-seat _ _ _ given (c .before .before .loop-test .taken)))) (inv .2))
+    let inside : c .before .before .before .loop .k < length (c .before .before .before .loop .r) = omega (arith, inv .1, few-groups _ _ given) in (
+      omega arith,
+      length-set (c .before .before .before .loop .r) _ _ ∙ inv .1,
+      next (c .before .before .before .loop .r) _ _ _ inside (c .map .ensures ∙ ap (codeword 6) (one ∙ lone _ (first-seat _ _ _ given (c .before .before .loop-test .taken)))) (inv .2),
+    )
 
 returns : tie.Need-returns Inv-loop μ-loop
 returns c =

@@ -48,16 +48,16 @@ returns c =
     let n = c .before .before .before .before .before .before .args .n in
     let folding = c .before .before .before .before .before .before .args .folding in
     let all : c .before .widen-by2 .result ≡ 2 ^ n =
-      c .before .widen-by2 .ensures .0
-      ∙ all-seats n folding _ (c .before .before .before .before .before .before .pre .1) (c .before .before .before .before .widen-by .ensures .0)
+    c .before .widen-by2 .ensures .0
+    ∙ all-seats n folding _ (c .before .before .before .before .before .before .pre .1) (c .before .before .before .before .widen-by .ensures .0)
     in
     let given = c .before .before .before .before .before .before .pre in
     record {
       few = given .0;
       fits = given .1;
       listed =
-        ap (λ (m : ℕ). take m (c .before .widen-by2 .last .0)) (sym all) ∙ c .before .widen-by2 .ensures .1 .0
-        ∙ ap (widenedBy (hasBit folding 0) n) (c .before .before .before .before .widen-by .ensures .1 .0)
+          ap (λ (m : ℕ). take m (c .before .widen-by2 .last .0)) (sym all) ∙ c .before .widen-by2 .ensures .1 .0
+          ∙ ap (widenedBy (hasBit folding 0) n) (c .before .before .before .before .widen-by .ensures .1 .0);
     }
 
 pub seats-spec : {M : Type 1} → statement M

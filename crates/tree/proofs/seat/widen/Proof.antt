@@ -25,9 +25,12 @@ slice-read-index c =
 add-index : tie.Need-add-index Inv-loop μ-loop
 add-index c =
     let given = c .before .before .before .pre in
-    omega
-    (arith, given .short, still _ _ _ (omega (arith, given .room, given .long)) (c .before .before .loop .inv) _ (c .before .loop-test .taken),
-    given .small _ (c .before .loop-test .taken))
+    omega (
+      arith,
+      given .short,
+      still _ _ _ (omega (arith, given .room, given .long)) (c .before .before .loop .inv) _ (c .before .loop-test .taken),
+      given .small _ (c .before .loop-test .taken),
+    )
 
 add-index-2 : tie.Need-add-index-2 Inv-loop μ-loop
 add-index-2 c = omega (arith, c .before .before .before .pre .room)

@@ -40,17 +40,18 @@ widen-requires c κs =
       long = inv .same ∙ given .long;
       room = widened-room _ _ _ _ _ (given .room) (c .before .before .loop-test .taken) (eq-eqb _ _ (c .before .if1 .taken)) (inv .counted);
       small = λ q h. omega (arith, inv .small 1024 (given .small) q h);
-      short = rw (step-shifted (c .before .before .before .loop .b) (omega arith)) (pow-mono {j = 6} (omega arith))
+      short = rw (step-shifted (c .before .before .before .loop .b) (omega arith)) (pow-mono {j = 6} (omega arith));
     }
 
 mul-many : tie.Need-mul-many Inv-loop μ-loop
 mul-many c =
     let given = c .before .before .before .before .before .before .before .before .pre in
-    omega
-    (arith,
-    widened-room _ _ _ _ _ (given .room) (c .before .before .before .before .before .loop-test .taken)
-    (eq-eqb _ _ (c .before .before .before .before .if1 .taken))
-    (c .before .before .before .before .before .before .loop .inv .1 .counted))
+    omega (
+      arith,
+      widened-room _ _ _ _ _ (given .room) (c .before .before .before .before .before .loop-test .taken)
+          (eq-eqb _ _ (c .before .before .before .before .if1 .taken))
+          (c .before .before .before .before .before .before .loop .inv .1 .counted),
+    )
 
 add-b : tie.Need-add-b Inv-loop μ-loop
 add-b c = omega (arith, c .before .before .before .before .pre .few)
@@ -59,17 +60,18 @@ loop-less : tie.Need-loop-less Inv-loop μ-loop
 loop-less c = omega arith
 
 loop-again : tie.Need-loop-again Inv-loop μ-loop
-loop-again c = 
+loop-again c =
     let given = c .before .before .before .before .pre in
     let inv = c .before .before .loop .inv .1 in
     ⊎-elim
-    (λ w.
-      (omega arith,
+    (λ w. (
+      omega arith,
       rw (w .5, w .6)
-      (widened-passing _ _ _ _ inv (eq-eqb _ _ (w .0 .taken)) _ (w .2 .kept .0)
-      (omega (arith, widened-room _ _ _ _ _ (given .room) (c .before .loop-test .taken) (eq-eqb _ _ (w .0 .taken)) (inv .counted), inv .same, given .long))
-      (pow-mono {j = 6} (omega (arith, given .few)))
-      (w .2 .ensures ∙ ap (widened (take (c .before .before .loop .many) (c .before .before .loop .index))) (step-shifted (c .before .before .loop .b) (omega (arith, given .few)))))))
+          (widened-passing _ _ _ _ inv (eq-eqb _ _ (w .0 .taken)) _ (w .2 .kept .0)
+          (omega (arith, widened-room _ _ _ _ _ (given .room) (c .before .loop-test .taken) (eq-eqb _ _ (w .0 .taken)) (inv .counted), inv .same, given .long))
+          (pow-mono {j = 6} (omega (arith, given .few)))
+          (w .2 .ensures ∙ ap (widened (take (c .before .before .loop .many) (c .before .before .loop .index))) (step-shifted (c .before .before .loop .b) (omega (arith, given .few))))),
+    ))
     (λ w. (omega arith, rw (w .1, w .2) (widened-failing _ _ _ _ inv (ne-eqb _ _ (w .0 .left)))))
     (c .if1 .came)
 

@@ -37,35 +37,34 @@ node-below t = and 3 node-kinds.ps (falls 3 node-kinds.ps _<_ μ-node t) node.Pr
 
 -- what the callees ask and ensure, at the measure t
 abbrev claims : ℕ → node-lts.Claims
-claims t =
-    (
-      unseated-reads.Asked,
-      unseated-reads.Learnt,
-      keep-word-reads.Asked,
-      keep-word-reads.Learnt,
-      block-reads.Asked,
-      block-reads.Learnt,
-      entry-reads.Asked,
-      entry-reads.Learnt,
-      own-bits-reads.Asked,
-      own-bits-reads.Learnt,
-      map-byte-reads.Asked,
-      map-byte-reads.Learnt,
-      is-open-reads.Asked,
-      is-open-reads.Learnt,
-      branch-reads.Asked,
-      branch-reads.Learnt,
-      farther-reads.Asked,
-      farther-reads.Learnt,
-      above-reads.Asked,
-      above-reads.Learnt,
-      xor-reads.Asked,
-      xor-reads.Learnt,
-      coded-reads.Asked,
-      coded-reads.Learnt,
-      node-below t,
-      node.Post,
-    )
+claims t = (
+  unseated-reads.Asked,
+  unseated-reads.Learnt,
+  keep-word-reads.Asked,
+  keep-word-reads.Learnt,
+  block-reads.Asked,
+  block-reads.Learnt,
+  entry-reads.Asked,
+  entry-reads.Learnt,
+  own-bits-reads.Asked,
+  own-bits-reads.Learnt,
+  map-byte-reads.Asked,
+  map-byte-reads.Learnt,
+  is-open-reads.Asked,
+  is-open-reads.Learnt,
+  branch-reads.Asked,
+  branch-reads.Learnt,
+  farther-reads.Asked,
+  farther-reads.Learnt,
+  above-reads.Asked,
+  above-reads.Learnt,
+  xor-reads.Asked,
+  xor-reads.Learnt,
+  coded-reads.Asked,
+  coded-reads.Learnt,
+  node-below t,
+  node.Post,
+)
 
 abbrev node-Inv-loop : node-lts.InvT-loop
 node-Inv-loop rows index covered tree left partial d x k size at entries forced shut s₀ j₀ s j =
@@ -128,8 +127,8 @@ node-add-total : (t : ℕ) → node-lts.Need-add-total (claims t) (node-at t) no
 node-add-total t c =
     record {
       fits =
-        rw (c .branch .ensures, c .before .before .before .before .before .before .before .before .before .entry .ensures)
-        (total-fits (c .before .before .before .before .before .before .before .before .before .before .before .loop .inv .given) _ (below (c .before .before .before .before .before .before .before .before .before .before .before .loop .inv) (c .before .before .before .before .before .before .before .before .before .before .loop-test .taken)))
+          rw (c .branch .ensures, c .before .before .before .before .before .before .before .before .before .entry .ensures)
+          (total-fits (c .before .before .before .before .before .before .before .before .before .before .before .loop .inv .given) _ (below (c .before .before .before .before .before .before .before .before .before .before .before .loop .inv) (c .before .before .before .before .before .before .before .before .before .before .loop-test .taken)));
     }
 
 node-farther-requires : (t : ℕ) → node-lts.Need-farther-requires (claims t) (node-at t) node.Post node-Inv-loop node-μ-loop
@@ -156,13 +155,14 @@ node-node-requires : (t : ℕ) → node-lts.Need-node-requires (claims t) (node-
 node-node-requires t c κs =
     let inv = c .before .before .before .before .before .before .before .before .before .before .before .before .before .before .before .before .loop .inv in
     let here = c .before .before .before .before .before .before .before .before .before .before .before .before .before .before .before .loop-test .taken in
-    let read = reading inv here (c .before .before .before .before .before .before .before .before .before .before .before .before .before .before .entry .ensures) (c .before .before .before .before .before .before .before .before .before .before .before .before .before .own-bits .ensures) (c .before .before .before .before .before .before .before .before .before .before .before .before .map-byte .ensures) in
-    (omega (arith, c .before .before .before .before .before .before .before .before .before .before .before .before .before .before .before .before .before .before .before .before .pre .0, c .before .before .before .before .before .before .before .before .before .before .before .before .before .before .before .before .before .before .before .if1 .left),
-    given-down (inv .given) _ (below inv here) _ _ _ _
-    (next-right inv here read _ _ (c .before .xor .ensures) (c .before .before .above .ensures))
-    (code-right inv here read _ (c .coded .ensures))
-    (total-is inv here read _ (c .before .before .before .before .before .branch .ensures))
-    (inv .running))
+    let read = reading inv here (c .before .before .before .before .before .before .before .before .before .before .before .before .before .before .entry .ensures) (c .before .before .before .before .before .before .before .before .before .before .before .before .before .own-bits .ensures) (c .before .before .before .before .before .before .before .before .before .before .before .before .map-byte .ensures) in (
+      omega (arith, c .before .before .before .before .before .before .before .before .before .before .before .before .before .before .before .before .before .before .before .before .pre .0, c .before .before .before .before .before .before .before .before .before .before .before .before .before .before .before .before .before .before .before .if1 .left),
+      given-down (inv .given) _ (below inv here) _ _ _ _
+          (next-right inv here read _ _ (c .before .xor .ensures) (c .before .before .above .ensures))
+          (code-right inv here read _ (c .coded .ensures))
+          (total-is inv here read _ (c .before .before .before .before .before .branch .ensures))
+          (inv .running),
+    )
 
 node-returns-4 : (t : ℕ) → node-lts.Need-returns-4 (claims t) (node-at t) node.Post node-Inv-loop node-μ-loop
 node-returns-4 t c =
@@ -185,16 +185,16 @@ node-loop-again t c =
     let inv = c .before .before .before .before .before .before .loop .inv in
     let here = c .before .before .before .before .before .loop-test .taken in
     let read =
-      reading inv here (c .before .before .before .before .entry .ensures) (c .before .before .before .own-bits .ensures)
-      (c .before .before .map-byte .ensures)
+    reading inv here (c .before .before .before .before .entry .ensures) (c .before .before .before .own-bits .ensures)
+    (c .before .before .map-byte .ensures)
     in
     ⊎-elim
     (λ w.
-      rw (w .13)
-      (trying-back inv here read _ (c .before .is-open .ensures) (w .0 .taken) (w .3 .left) _
-      (ap (λ (a : ℕ). c .before .before .before .before .before .before .before .before .before .before .args .partial + a) (w .5 .ensures))
-      (sym (w .6 .ensures) ∙ w .7 .left) _ (next-right inv here read _ _ (w .9 .ensures) (w .8 .ensures)) (w .11 .result) (w .11 .ensures)
-      (w .12 .left)))
+    rw (w .13)
+    (trying-back inv here read _ (c .before .is-open .ensures) (w .0 .taken) (w .3 .left) _
+    (ap (λ (a : ℕ). c .before .before .before .before .before .before .before .before .before .before .args .partial + a) (w .5 .ensures))
+    (sym (w .6 .ensures) ∙ w .7 .left) _ (next-right inv here read _ _ (w .9 .ensures) (w .8 .ensures)) (w .11 .result) (w .11 .ensures)
+    (w .12 .left)))
     (λ w. rw (w .1) (trying-shut inv here read _ (c .before .is-open .ensures) (w .0 .left)))
     (c .if2 .came)
 
@@ -206,37 +206,37 @@ pub +node-spec : {M : Type 1} → statement M
     close
     μ-node
     (λ t.
-      node-lts.spec
-      (claims t)
-      (node-at t)
-      node.Post
-      node-Inv-loop
-      node-μ-loop
-      (node-unseated-requires t)
-      (node-keep-word-requires t)
-      (node-returns t)
-      (node-sub-k t)
-      (node-mul-at t)
-      (node-shl-entries t)
-      (node-block-requires t)
-      (node-block-requires-2 t)
-      (node-loop-holds t)
-      (node-entry-requires t)
-      (node-own-bits-requires t)
-      (node-map-byte-requires t)
-      (node-is-open-requires t)
-      (node-returns-2 t)
-      (node-add-s t)
-      (node-branch-requires t)
-      (node-add-total t)
-      (node-farther-requires t)
-      (node-returns-3 t)
-      (node-above-requires t)
-      (node-xor-requires t)
-      (node-coded-requires t)
-      (node-node-requires t)
-      (node-returns-4 t)
-      (node-add-j t)
-      (node-loop-less t)
-      (node-loop-again t)
-      (node-returns-5 t))
+    node-lts.spec
+    (claims t)
+    (node-at t)
+    node.Post
+    node-Inv-loop
+    node-μ-loop
+    (node-unseated-requires t)
+    (node-keep-word-requires t)
+    (node-returns t)
+    (node-sub-k t)
+    (node-mul-at t)
+    (node-shl-entries t)
+    (node-block-requires t)
+    (node-block-requires-2 t)
+    (node-loop-holds t)
+    (node-entry-requires t)
+    (node-own-bits-requires t)
+    (node-map-byte-requires t)
+    (node-is-open-requires t)
+    (node-returns-2 t)
+    (node-add-s t)
+    (node-branch-requires t)
+    (node-add-total t)
+    (node-farther-requires t)
+    (node-returns-3 t)
+    (node-above-requires t)
+    (node-xor-requires t)
+    (node-coded-requires t)
+    (node-node-requires t)
+    (node-returns-4 t)
+    (node-add-j t)
+    (node-loop-less t)
+    (node-loop-again t)
+    (node-returns-5 t))

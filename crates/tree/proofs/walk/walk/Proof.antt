@@ -28,9 +28,11 @@ begin {tree = tree} {left = left} seated rows =
       empty = λ i h. bit-zero i;
       code = sym (codeword-zero (tree .n));
       room =
-        omega
-        (arith, mul-assoc left (tree .size) most,
-        mul-le-mul-right {m = left * tree .size} {n = 64} most (le-trans (rows .inside) (pow-mono (seated .few))))
+          omega (
+            arith,
+            mul-assoc left (tree .size) most,
+            mul-le-mul-right {m = left * tree .size} {n = 64} most (le-trans (rows .inside) (pow-mono (seated .few))),
+          );
     }
 
 start-requires : tie.Need-start-requires

@@ -12,7 +12,7 @@ use Rattle.word.proofs.block.block.Tie as tie
 returns : tie.Need-returns
 returns c =
     let gone : c .before .args .w / 2 ^ (c .before .args .i) ≡ 0 =
-      div-eq-of-lt (lt-of-lt-of-le {m = 2 ^ 64} (omega arith) (pow-mono (c .if1 .taken)))
+    div-eq-of-lt (lt-of-lt-of-le {m = 2 ^ 64} (omega arith) (pow-mono (c .if1 .taken)))
     in
     sym (ap (λ (x : ℕ). x % 2 ^ min (c .before .args .size) 8) gone ∙ zero-mod _)
 
@@ -29,8 +29,8 @@ cast-result : tie.Need-cast-result
 cast-result c =
     record {
       fits =
-        rw (one-shifted (c .before .before .args .size) (omega arith))
-        (lt-of-lt-of-le (mod-lt _ (pow-pos _)) (pow-mono {j = 8} (le-of-lt (c .if2 .taken))))
+          rw (one-shifted (c .before .before .args .size) (omega arith))
+          (lt-of-lt-of-le (mod-lt _ (pow-pos _)) (pow-mono {j = 8} (le-of-lt (c .if2 .taken))));
     }
 
 shr-result-2 : tie.Need-shr-result-2
