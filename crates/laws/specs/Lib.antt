@@ -50,3 +50,9 @@ pub mod SeatedDown
 pub mod SeatedFillings
 pub mod SeatedWalk
 pub mod FillingNumber
+pub mod LittleEndian
+pub mod Digits
+pub mod Stores
+pub mod Texts
+pub mod Sizes
+pub mod Records
