@@ -1,10 +1,9 @@
 -- The guard that `code::Code::guard` answers is the guard that the theorems on decoding speak of; that there is none means K = 0.
 -- The contract is that of src/, as the check reads it; the argument is the code.
 use Prim.Native.Nat.{ℕ}
-use mathlib.Core.Path.{_≡_, refl, sym, ap, _∙_}
+use mathlib.Core.Path.{_≡_, sym, ap, _∙_}
 use mathlib.Core.Option.{Option, none, some}
 use mathlib.Core.List.{List, [], _∷_}
-use native.Mathlib.Omega.{arith}
 use Rattle.rules.specs.Word.{messageBits}
 use Rattle.rules.specs.Guard.{guardOf}
 use Rattle.rules.specs.Refusals.{Refusal, done, answer, wrongSize, wrongMask}

@@ -8,7 +8,7 @@ use lib.IntN.{ℤ}
 use lib.ListN.{length}
 use borrow.Author.Tests.{eq-eqb, ne-eqb}
 use Rattle.rules.specs.Level.{idealLevels}
-use Rattle.rules.specs.Refusals.{Refusal, Answer, refused, done, answer, isWrongSize, wrongSize, wrongLength, wrongMask, wrongMessage}
+use Rattle.rules.specs.Refusals.{Refusal, refused, done, answer, isWrongSize, wrongSize, wrongLength, wrongMask, wrongMessage}
 use Rattle.rules.specs.Answers.{Encoded, encoded, encodeAnswer, encodeLevelsAnswer, encodeLevelsLeft}
 
 -- an answer that is a success is the one that the order leads to

@@ -50,9 +50,4 @@ pub mod SeatedDown
 pub mod SeatedFillings
 pub mod SeatedWalk
 pub mod FillingNumber
-pub mod LittleEndian
-pub mod Digits
-pub mod Stores
-pub mod Texts
-pub mod Sizes
 pub mod Records

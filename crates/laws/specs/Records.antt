@@ -1,19 +1,18 @@
 -- Reading a record and then decoding its fields answers what the record answers.
-use Prim.Native.Nat.{ℕ, _^_, _≤_}
+use Prim.Native.Nat.{ℕ, _^_}
 use mathlib.Core.Path.{_≡_, refl, sym, ap, _∙_}
 use mathlib.Core.Bool.{Bool, true, false, not}
 use mathlib.Core.Option.{Option, none, some}
 use mathlib.Core.List.{List, [], _∷_, _++_}
-use native.Mathlib.Nat.{le-refl}
 use native.Mathlib.Omega.{arith}
-use lib.ListN.{length, take}
+use lib.ListN.{length}
 use lib.Pow.{pow-mono}
 use lib.Seq.{length-take-le}
 use borrow.Author.Tests.{eq-eqb}
-use Rattle.rules.specs.Refusals.{Refusal, Answer, refused, done, answer, refuse, isWrongSize, wrongSize, wrongLength, wrongMask, wrongFolding, wideFolding, outOfRange, noCandidate, smallAllowance}
+use Rattle.rules.specs.Refusals.{Refusal, refused, done, answer, refuse, isWrongSize, wrongSize, wrongLength, wrongMask, wrongFolding, wideFolding, outOfRange, noCandidate, smallAllowance}
 use Rattle.rules.specs.Level.{levelCost}
 use Rattle.rules.specs.Walk.{walkVisits}
-use Rattle.rules.specs.Answers.{Decoded, decoded, treeOrder, decodeAnswer}
+use Rattle.rules.specs.Answers.{treeOrder, decodeAnswer}
 use Rattle.rules.specs.Record.{Fields, fieldsOf, blockLevels, recordSlots, slotLevel, shortRecord, notZero, readAnswer, recordAnswer}
 use Rattle.laws.specs.Each.{each-length}
 use Rattle.laws.specs.Sizes.{size-le}
@@ -104,5 +103,5 @@ read-taken bytes f e =
     record {
       fields = same;
       right = rw (← same) (refuse-none 1 _ (p .1 .0));
-      long = rw (← same) (each-length (slotLevel bytes) recordSlots)
+      long = rw (← same) (each-length (slotLevel bytes) recordSlots);
     }

@@ -18,5 +18,11 @@ pub fn decode(bytes: &[u8]) -> tree::Answer
     let fields = record.fields;
     let levels = fields.levels;
     let slots = word::slots(fields.n);
-    tree::decode(fields.n, &levels[..slots], fields.mask, fields.folding, fields.allowance)
+    tree::decode(
+        fields.n,
+        &levels[..slots],
+        fields.mask,
+        fields.folding,
+        fields.allowance,
+    )
 }

@@ -1,5 +1,5 @@
 // Recorded blocks: a record's fields from its bytes, and the line of an answer.
-mod put;
 pub mod block;
+mod put;
 pub mod read;
 pub mod text;

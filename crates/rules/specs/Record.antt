@@ -1,11 +1,11 @@
 -- Document 01, "Recorded blocks": a record's fields from its bytes, and what a record answers.
 use Prim.Native.Nat.{ℕ, _+_, _-_, _*_, _^_}
-use mathlib.Core.Bool.{Bool, true, not, _&&_, _||_, cond}
+use mathlib.Core.Bool.{true, not, _&&_, _||_, cond}
 use mathlib.Core.Option.{Option}
 use mathlib.Core.List.{List, [], _∷_, map}
 use lib.IntN.{ℤ, pos, negℤ}
-use lib.Dec.{leb, ltb, eqb}
-use lib.ListN.{length, getD, take, drop}
+use lib.Dec.{ltb, eqb}
+use lib.ListN.{length, take, drop}
 use Rattle.rules.specs.Below.{allBelow, listBelow}
 use Rattle.rules.specs.Refusals.{Refusal, Answer, answer, refuse, wrongSize, wrongMask, wrongFolding, wideFolding}
 use Rattle.rules.specs.Answers.{Decoded, decoded, treeOrder}

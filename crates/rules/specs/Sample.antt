@@ -1,6 +1,6 @@
 -- Document 01, "From light to levels": the level of a sample.
 -- A float is the toolchain's own meaning of an f32: not a number, an infinity, or the exact value ±m * 2 ^ e.
-use Prim.Native.Nat.{ℕ, _+_, _-_, _*_, _/_, _%_, min, compare}
+use Prim.Native.Nat.{ℕ, _-_, _*_, _/_, _%_, min, compare}
 use mathlib.Core.Bool.{Bool, true, false}
 use mathlib.Core.Option.{Option, none, some}
 use lib.IntN.{ℤ, pos, negsuc, negℤ}

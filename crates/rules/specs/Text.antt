@@ -1,11 +1,11 @@
 -- Document 01, "Recorded blocks": the line of an answer, and the text of all the bytes of a file. Text is a list of bytes.
-use Prim.Native.Nat.{ℕ, zero, suc, _+_, _-_, _*_, _/_, _%_}
-use mathlib.Core.Bool.{Bool, cond}
+use Prim.Native.Nat.{ℕ, zero, suc, _+_, _-_, _/_, _%_}
+use mathlib.Core.Bool.{cond}
 use mathlib.Core.List.{List, [], _∷_, _++_}
 use lib.Dec.{ltb}
-use lib.ListN.{length, take, drop}
+use lib.ListN.{take, drop}
 use Rattle.rules.specs.Below.{choose}
-use Rattle.rules.specs.Refusals.{Refusal, Answer, refused, done}
+use Rattle.rules.specs.Refusals.{Answer, refused, done}
 use Rattle.rules.specs.Answers.{Decoded}
 use Rattle.rules.specs.Record.{recordBytes, recordAnswer}
 

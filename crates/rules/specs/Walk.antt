@@ -1,7 +1,7 @@
 -- Document 01, "The walk and what one visit is": fillings, candidates in their order, and the walk with its visits.
 -- The walk knows no allowance: its total is a number of any size, and refusal 8 compares it with the allowance.
 use Prim.Native.Nat.{ℕ, zero, suc, _+_, _*_, _^_}
-use mathlib.Core.Bool.{Bool, true, false, _&&_, _||_, cond}
+use mathlib.Core.Bool.{Bool, false, _&&_, _||_, cond}
 use mathlib.Core.List.{List, [], _∷_, _++_, map}
 use lib.Dec.{leb, ltb, eqb}
 use Rattle.rules.specs.Below.{choose}

@@ -1,6 +1,6 @@
 -- Document 01, "Words and matrix": bits, the matrix rule, the frozen mask, messages.
 -- A word is a number; N = 2 ^ n is the number of slots.
-use Prim.Native.Nat.{ℕ, zero, suc, _+_, _-_, _*_, _/_, _%_, _^_}
+use Prim.Native.Nat.{ℕ, zero, suc, _*_, _/_, _%_, _^_}
 use mathlib.Core.Bool.{Bool, _&&_, _||_, cond}
 use lib.Bits.{bitAnd}
 use lib.Dec.{ltb, eqb}

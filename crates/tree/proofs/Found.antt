@@ -1,14 +1,14 @@
 -- What the end of the walk says of the answer: that the allowance was used up, or the fields of the decoding.
-use Prim.Native.Nat.{ℕ, _^_, _≤_, _<_, min}
+use Prim.Native.Nat.{ℕ, _≤_}
 use mathlib.Core.Path.{_≡_, refl, sym, ap, _∙_}
-use mathlib.Core.Bool.{Bool, true, false, cond, true≢false}
-use mathlib.Core.Option.{Option, none, some, Option·none-ne-some, Option·some-injective}
+use mathlib.Core.Bool.{Bool, true, false, cond}
+use mathlib.Core.Option.{none, some, Option·none-ne-some, Option·some-injective}
 use mathlib.Core.List.{List, [], _∷_}
 use native.Mathlib.Omega.{arith}
 use lib.Dec.{ltb}
 use lib.IntN.{ℤ}
 use Rattle.rules.specs.Word.{codeword, gather}
-use Rattle.rules.specs.Level.{Best, nothing, best, levelCost, wordDistance, leastWord}
+use Rattle.rules.specs.Level.{nothing, best, levelCost, wordDistance, leastWord}
 use Rattle.rules.specs.Walk.{State, keepBest, walkVisits}
 use Rattle.rules.specs.Refusals.{refused, done, refuseAt}
 use Rattle.rules.specs.Answers as rules

@@ -1,5 +1,5 @@
 -- Where a group's row stands in the table: rows of 2 ^ size entries, packed in rows of 256, none across an edge.
-use Prim.Native.Nat.{ℕ, _+_, _-_, _*_, _/_, _%_, _^_, _≤_, _<_}
+use Prim.Native.Nat.{ℕ, _+_, _-_, _*_, _/_, _%_, _^_, _<_}
 use mathlib.Core.Path.{_≡_, ap, _∙_}
 use native.Mathlib.Nat.{mul-div-cancel, mul-mod-left, mod-lt, add-zero}
 use native.Mathlib.Omega.{arith}

@@ -1,10 +1,10 @@
 -- From what the steps of a search make to what its walk asks and finds.
 use Prim.Native.Nat.{ℕ, zero, suc, _+_, _*_, _/_, _%_, _^_, _≤_, _<_}
 use mathlib.Core.Path.{_≡_, refl, sym, ap, ap₂, fun-ext, _∙_}
-use mathlib.Core.Bool.{Bool, true, false, cond}
-use mathlib.Core.Option.{Option, none, some}
+use mathlib.Core.Bool.{cond}
+use mathlib.Core.Option.{none, some}
 use mathlib.Core.List.{List, [], _∷_, List·Memᴰ, List·Memᴰ·head, List·Memᴰ·tail}
-use native.Mathlib.Nat.{zero-add, mul-comm, suc-mul, mul-le-mul-right, not-suc-le-zero, le-of-suc-le-suc}
+use native.Mathlib.Nat.{zero-add, suc-mul, mul-le-mul-right, not-suc-le-zero, le-of-suc-le-suc}
 use native.Mathlib.Omega.{arith}
 use lib.Count.{ones}
 use lib.Dec.{ltb}
@@ -12,16 +12,16 @@ use lib.IntN.{ℤ}
 use lib.ListN.{length, getD}
 use lib.Pow.{pow-mono}
 use lib.Seq.{ext-getD}
-use Rattle.rules.specs.Level.{inRange, levelAt, slotCost, levelCost, best, nothing, wordDistance, leastWord}
+use Rattle.rules.specs.Level.{levelAt, slotCost, levelCost, best, wordDistance, leastWord}
 use Rattle.rules.specs.Folding.{groups}
-use Rattle.rules.specs.Walk.{State, keepBest, walkVisits}
+use Rattle.rules.specs.Walk.{keepBest, walkVisits}
 use Rattle.laws.specs.Each.{each-length, each-at}
 use Rattle.laws.specs.GreatestDistance.{slot-greatest}
 use Rattle.laws.specs.GroupSizes.{groups-all}
 use Rattle.laws.specs.Seats.{seatIndex, seat-below}
 use Rattle.laws.specs.SeatWords.{seat}
 use Rattle.laws.specs.SeatedWalk.{seatedCandidates, seated-least-in}
-use Rattle.laws.specs.SortedRows.{rowOf, entryOf, row-length, row-at, row-bound, row-cong, entry-parts}
+use Rattle.laws.specs.SortedRows.{rowOf, row-length, row-at, row-bound, row-cong, entry-parts}
 use Rattle.laws.specs.Allowance.{walkIn}
 use Rattle.tree.specs.Seating.{Seated, Covered}
 use Rattle.tree.specs.Tables.{entryAt, rowAt}

@@ -1,7 +1,7 @@
 -- One step of a node: what is known where a group's candidates are tried, and of the node one level down.
-use Prim.Native.Nat.{ℕ, zero, suc, _+_, _-_, _*_, _/_, _%_, _^_, _≤_, _<_, min}
-use mathlib.Core.Path.{_≡_, refl, sym, ap, ap₂, _∙_, subst}
-use mathlib.Core.Bool.{Bool, true, false}
+use Prim.Native.Nat.{ℕ, zero, suc, _+_, _*_, _/_, _%_, _^_, _≤_, _<_, min}
+use mathlib.Core.Path.{_≡_, sym, ap, ap₂, _∙_}
+use mathlib.Core.Bool.{false}
 use mathlib.Core.List.{List}
 use native.Mathlib.Nat.{suc-mul, mul-one, mul-le-mul-left, mul-le-mul-right, mod-lt, mod-eq-of-lt, le-trans, lt-of-lt-of-le, mul-comm}
 use native.Mathlib.Decide.{decLt}
@@ -10,18 +10,16 @@ use lib.Bits.{bitXor, xor-lt}
 use lib.Count.{ones, ones-le}
 use lib.ListN.{getD}
 use lib.Pow.{pow-mono, pow-pos, pow-lt}
-use Rattle.rules.specs.Word.{bit, codeword}
+use Rattle.rules.specs.Word.{codeword}
 use Rattle.rules.specs.Folding.{groups}
-use Rattle.rules.specs.Walk.{Candidate}
 use Rattle.laws.specs.Matrix.{codeword-longer}
 use Rattle.laws.specs.GroupSizes.{groups-all}
-use Rattle.laws.specs.SeatWords.{seat, unseat, seat-unseat}
-use Rattle.laws.specs.SeatedRow.{blockOf, fillingOf, entryCandidate, short-code}
+use Rattle.laws.specs.SeatWords.{unseat, seat-unseat}
+use Rattle.laws.specs.SeatedRow.{blockOf, entryCandidate, short-code}
 use Rattle.laws.specs.SeatedDown.{SeatedDown, groups-blocks, seated-down, block-small}
 use Rattle.laws.specs.Blocks.{block-code-lt}
-use Rattle.tree.specs.Seating.{Seated}
-use Rattle.tree.specs.Tables.{Inside, entryAt, rowAt}
-use Rattle.tree.specs.Nodes.{Table, Begun, Given, rowCandidates, most}
+use Rattle.tree.specs.Tables.{Inside, entryAt}
+use Rattle.tree.specs.Nodes.{Given, rowCandidates, most}
 use Rattle.tree.specs.declared.walk.Tree.{Tree}
 use Rattle.tree.specs.declared.state.Walked.{Walked}
 use Rattle.tree.proofs.Rows.{rest}

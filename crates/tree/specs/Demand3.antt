@@ -8,7 +8,6 @@ use mathlib.Core.Logic.{_≢_}
 use mathlib.Core.Bool.{true}
 use mathlib.Core.Option.{some}
 use mathlib.Core.List.{List}
-use native.Mathlib.Omega.{arith}
 use lib.Count.{ones}
 use lib.IntN.{ℤ, pos, natAbs, _-ℤ_}
 use lib.ListN.{length}
@@ -25,7 +24,7 @@ use Rattle.laws.specs.Least.{least-unique}
 use Rattle.laws.specs.Message.{spread-permitted, spread-gather, gather-spread, gather-lt, gather-zero}
 use Rattle.laws.specs.Margin.{totalMoved}
 use Rattle.laws.specs.Demand3.{below-guard-only, at-guard}
-use Rattle.tree.specs.LeastAnswer.{Accepted, HoldsLeast, done-least, accepted-done}
+use Rattle.tree.specs.LeastAnswer.{Accepted, done-least, accepted-done}
 
 -- the levels that a message is sent as: those that encoding to ideal levels writes
 abbrev pub sentLevels : ℕ → ℕ → ℕ → List ℤ

@@ -18,7 +18,7 @@ use Rattle.rules.specs.Word.{codeword, gather}
 use Rattle.rules.specs.Level.{inRange, levelAt, levelCost, wordDistance, Least}
 use Rattle.rules.specs.Folding.{group, groups}
 use Rattle.rules.specs.Walk.{fillings, walkVisits}
-use Rattle.rules.specs.Refusals.{Refusal, Answer, refused, done, answer, refuse, refuseAt, isEmpty, isWrongSize, wrongSize, wrongLength, wrongMask, wrongFolding, wideFolding, outOfRange, noCandidate, smallAllowance}
+use Rattle.rules.specs.Refusals.{Refusal, refused, done, answer, refuse, refuseAt, isEmpty, isWrongSize, wrongSize, wrongLength, noCandidate, smallAllowance}
 use Rattle.rules.specs.Answers.{Decoded, decoded, treeOrder, decodeAnswer}
 use Rattle.laws.specs.Sums.{none-at, none-of}
 use Rattle.laws.specs.Least.{leastWord-least, least-unique}

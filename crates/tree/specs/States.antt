@@ -1,5 +1,5 @@
 -- The state of the code's walk as the rules' state, or none where the allowance is used up.
-use mathlib.Core.Bool.{Bool, cond}
+use mathlib.Core.Bool.{cond}
 use mathlib.Core.Option.{Option, none, some}
 use Rattle.rules.specs.Level.{Best, nothing, best}
 use Rattle.rules.specs.Walk.{State, keepBest}

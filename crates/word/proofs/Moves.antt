@@ -1,10 +1,9 @@
 -- Bits moved one by one over the unfrozen indices: the invariant that spreading and gathering share, and its two steps.
-use Prim.Native.Nat.{ℕ, zero, suc, _+_, _*_, _^_, _≤_, _<_}
-use mathlib.Core.Path.{_≡_, _∙_, sym, ap, ap₂, refl, subst}
+use Prim.Native.Nat.{ℕ, suc, _+_, _*_, _^_, _≤_, _<_}
+use mathlib.Core.Path.{_≡_, _∙_, sym, ap, ap₂, refl}
 use mathlib.Core.Bool.{true, false, cond}
-use native.Mathlib.Nat.{lt-of-lt-of-le, add-zero, le-of-eq, le-suc}
+use native.Mathlib.Nat.{lt-of-lt-of-le, add-zero}
 use native.Mathlib.Numerals.{add-one}
-use native.Mathlib.Omega.{arith}
 use lib.Pow.{pow-mono}
 use Rattle.rules.specs.Below.{sumBelow, countBelow}
 use Rattle.rules.specs.Word.{unfrozen, place}

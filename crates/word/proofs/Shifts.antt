@@ -1,5 +1,5 @@
 -- A bit shifted within the word, as the machine shifts it, is the bit times a power of two, and has room above what is below it.
-use Prim.Native.Nat.{ℕ, zero, suc, _+_, _*_, _%_, _^_, _≤_, _<_, min}
+use Prim.Native.Nat.{ℕ, suc, _+_, _*_, _%_, _^_, _≤_, _<_, min}
 use mathlib.Core.Path.{_≡_, _∙_}
 use native.Mathlib.Nat.{one-mul, mul-le-mul-right, min-le-right, pow-suc}
 use native.Mathlib.Omega.{arith}

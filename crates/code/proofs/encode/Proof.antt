@@ -1,5 +1,5 @@
 -- `code::encode` meets its contract.
-use mathlib.Core.Path.{_≡_, sym, _∙_, ap}
+use mathlib.Core.Path.{sym, _∙_, ap}
 use Rattle.rules.specs.Refusals.{done}
 use Rattle.rules.specs.Answers.{encodeAnswer}
 use Rattle.word.specs.Sizes.{mask-test}

@@ -1,15 +1,10 @@
 -- `tree::search` meets its contract: the steps make what the walk asks, and the walk's end decides the answer.
-use Prim.Native.Nat.{ℕ, _*_, _/_, _%_, _^_, _≤_, _<_}
-use mathlib.Core.Path.{_≡_, refl, sym, ap, _∙_}
+use Prim.Native.Nat.{ℕ, _*_, _%_, _^_, _≤_}
+use mathlib.Core.Path.{_≡_, refl, ap, _∙_}
 use native.Mathlib.Omega.{arith}
 use lib.Count.{ones}
-use lib.ListN.{length}
 use lib.Pow.{pow-mono, pow-pos}
 use borrow.Author.Needs.{needs}
-use Rattle.rules.specs.Refusals.{refuseAt, done}
-use Rattle.laws.specs.SeatWords.{seat}
-use Rattle.tree.specs.Empty.{Grouped}
-use Rattle.tree.specs.Search.{searchAnswer}
 use Rattle.tree.proofs.WideningBy.{step-shifted}
 use Rattle.tree.proofs.Searching.{groups-are, all-slots, levelled, table-right, walked}
 use Rattle.tree.proofs.Found.{used-up, enough, found-right, answer-seven, answer-eight, answer-found}

@@ -1,6 +1,5 @@
 -- `word::bit` meets its contract: past the word every bit is 0.
 use mathlib.Core.Path.{sym}
-use native.Mathlib.Nat.{le-trans}
 use native.Mathlib.Omega.{arith}
 use borrow.Author.Needs.{needs}
 use Rattle.laws.specs.Bits.{bit-beyond}

@@ -1,11 +1,10 @@
 -- `code::Code::guard` meets its contract.
-use mathlib.Core.Path.{_≡_, sym, _∙_, ap}
-use mathlib.Core.Option.{Option, some}
+use mathlib.Core.Path.{sym, _∙_, ap}
 use native.Mathlib.Omega.{arith}
-use Rattle.rules.specs.Guard.{fewestOnes, guardOf, guardFor}
+use Rattle.rules.specs.Guard.{guardOf, guardFor}
 use Rattle.rules.specs.Refusals.{done}
 use Rattle.rules.specs.Answers.{guardAnswer}
-use Rattle.word.specs.Words.{sizeOf, fewestOf}
+use Rattle.word.specs.Words.{fewestOf}
 use Rattle.word.specs.Sizes.{right-size, mask-test}
 use Rattle.code.proofs.Tests.{fewest-small, guard-fits}
 use borrow.Author.Needs.{needs}

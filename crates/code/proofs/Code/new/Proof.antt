@@ -1,5 +1,5 @@
 -- `code::Code::new` meets its contract.
-use mathlib.Core.Path.{_≡_, sym, _∙_}
+use mathlib.Core.Path.{sym, _∙_}
 use Rattle.code.specs.Made.{madeAnswer}
 use Rattle.word.specs.Sizes.{mask-test}
 use borrow.Author.Needs.{needs}

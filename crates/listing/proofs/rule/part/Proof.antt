@@ -1,6 +1,6 @@
 -- `listing::rule::part` meets its contract: the level is in range, so the gap is at most 1280, and its square fits.
-use Prim.Native.Nat.{ℕ, suc, zero, _*_, _≤_, _-_}
-use mathlib.Core.Path.{_≡_, refl, ap}
+use Prim.Native.Nat.{ℕ, suc, zero, _*_, _≤_}
+use mathlib.Core.Path.{_≡_, refl}
 use mathlib.Core.Bool.{Bool, true, false}
 use native.Mathlib.Nat.{mul-le-mul}
 use native.Mathlib.Omega.{arith}

@@ -58,7 +58,7 @@ decode-requires c κs = search needs
 returns-2 : tie.Need-returns-2
 returns-2 c =
     let reads =
-      sym (c .before .before .before .before .before .before .before .read .ensures .0) ∙ ap (λ v. verdictOn v (fieldsIn (c .before .before .before .before .before .before .before .read .result .fields))) (c .before .before .before .before .before .enum-told .given .1)
+    sym (c .before .before .before .before .before .before .before .read .ensures .0) ∙ ap (λ v. verdictOn v (fieldsIn (c .before .before .before .before .before .before .before .read .result .fields))) (c .before .before .before .before .before .enum-told .given .1)
     in
     let taken = read-taken _ _ reads in
     c .decode .ensures

@@ -1,11 +1,11 @@
 -- `tree::walk::node` meets its contract. The measure is the number of levels left; the loop's invariant is `Trying`.
-use Prim.Native.Nat.{ℕ, _+_, _-_, _*_, _%_, _^_, _<_}
-use mathlib.Core.Path.{sym, ap, ap₂, _∙_}
+use Prim.Native.Nat.{ℕ, _+_, _-_, _<_}
+use mathlib.Core.Path.{sym, ap, _∙_}
 use mathlib.Core.Logic.{⊎-elim}
 use native.Mathlib.Omega.{arith}
 use borrow.Author.Needs.{needs}
 use Rattle.tree.proofs.Steps.{narrow, first-seat, few-groups, inside, copies-fit, branch-fits, total-fits, given-down}
-use Rattle.tree.proofs.Trying.{Trying, below, reading, next-right, code-right, total-is, own-right, filling-right, at-leaf, given-next, trying-none, trying-end, trying-shut, trying-out, trying-cut, trying-stopped, trying-back}
+use Rattle.tree.proofs.Trying.{Trying, below, reading, next-right, code-right, total-is, own-right, at-leaf, given-next, trying-none, trying-end, trying-shut, trying-out, trying-cut, trying-stopped, trying-back}
 use borrow.Fn.Kinds.{In}
 use borrow.Fn.PlainCycle.{Measures, is, falls, and}
 use Rattle.tree.proofs.walk.node.Reads as node

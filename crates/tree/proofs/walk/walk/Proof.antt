@@ -1,6 +1,6 @@
 -- `tree::walk::walk` meets its contract: the word 0 has every group still empty.
-use Prim.Native.Nat.{ℕ, _*_, _^_, _≤_, _<_, _+_}
-use mathlib.Core.Path.{_≡_, sym, ap, ap₂, _∙_}
+use Prim.Native.Nat.{ℕ, _*_, _^_}
+use mathlib.Core.Path.{sym, ap₂, _∙_}
 use mathlib.Core.Option.{Option, some}
 use mathlib.Core.List.{List}
 use native.Mathlib.Nat.{mul-assoc, mul-le-mul-right, le-trans}
@@ -12,7 +12,7 @@ use Rattle.laws.specs.Matrix.{codeword-zero}
 use Rattle.laws.specs.SeatWords.{unseat-zero}
 use Rattle.tree.specs.Seating.{Seated}
 use Rattle.tree.specs.Nodes.{Table, Begun, most}
-use Rattle.tree.specs.States.{runningOf, stateOf, empty}
+use Rattle.tree.specs.States.{empty}
 use Rattle.tree.specs.declared.walk.Tree.{Tree}
 use Rattle.tree.proofs.Trying.{running-state, under}
 use borrow.Author.Needs.{needs}

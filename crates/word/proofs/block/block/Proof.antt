@@ -1,5 +1,5 @@
 -- `word::block::block` meets its contract.
-use Prim.Native.Nat.{ℕ, _/_, _%_, _^_, _<_, min}
+use Prim.Native.Nat.{ℕ, _/_, _%_, _^_, min}
 use mathlib.Core.Path.{_≡_, sym, _∙_, ap}
 use native.Mathlib.Nat.{div-eq-of-lt, zero-mod, mod-lt, lt-of-lt-of-le, le-of-lt}
 use native.Mathlib.Omega.{arith}

@@ -1,5 +1,5 @@
 -- `word::count::fewest_ones` meets its contract. Invariant: what was found is the fewest ones below i.
-use Prim.Native.Nat.{ℕ, suc, _≤_, _-_, _^_}
+use Prim.Native.Nat.{ℕ, _≤_, _-_, _^_}
 use mathlib.Core.Option.{Option, some}
 use mathlib.Core.Path.{_≡_, _∙_, sym, ap}
 use mathlib.Core.Logic.{⊎-elim}

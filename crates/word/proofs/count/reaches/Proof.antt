@@ -1,7 +1,6 @@
 -- `word::count::reaches` meets its contract: past the word no index has a one.
 use mathlib.Core.Path.{sym}
-use Prim.Native.Nat.{ℕ, _^_}
-use native.Mathlib.Nat.{lt-of-lt-of-le}
+use Prim.Native.Nat.{_^_}
 use native.Mathlib.Omega.{arith}
 use lib.Pow.{pow-mono}
 use borrow.Author.Needs.{needs}

@@ -1,6 +1,6 @@
 -- `word::message::gather` meets its contract. Invariant: the message has the bits of the unfrozen indices below i.
-use Prim.Native.Nat.{ℕ, suc, _+_, _-_, _*_, _^_, _≤_, _<_}
-use mathlib.Core.Path.{_≡_, _∙_, sym, ap, refl}
+use Prim.Native.Nat.{_-_, _^_, _≤_}
+use mathlib.Core.Path.{_≡_, _∙_, sym, ap}
 use mathlib.Core.Logic.{⊎-elim}
 use native.Mathlib.Nat.{le-of-eq}
 use native.Mathlib.Omega.{arith}

@@ -1,11 +1,11 @@
 -- `word::message::spread` meets its contract. Invariant: the word has the message's bits at the unfrozen indices below i.
-use Prim.Native.Nat.{ℕ, suc, _+_, _-_, _*_, _^_, _≤_, _<_}
+use Prim.Native.Nat.{_-_, _^_, _≤_}
 use mathlib.Core.Path.{_≡_, _∙_, sym, ap, refl}
 use mathlib.Core.Logic.{⊎-elim}
 use native.Mathlib.Omega.{arith}
 use borrow.Author.Needs.{needs}
 use borrow.Author.Tests.{eq-eqb, ne-eqb}
-use Rattle.rules.specs.Word.{bit, unfrozen, place, spread}
+use Rattle.rules.specs.Word.{bit, place, spread}
 use Rattle.word.specs.Words.{sizeOf}
 use Rattle.laws.specs.Bits.{bit-lt-two}
 use Rattle.word.proofs.Shifts.{slots-le}
