@@ -3,3 +3,4 @@ mod Fields
 mod Scaled
 mod Sizes
 mod Taking
+pub mod Unique

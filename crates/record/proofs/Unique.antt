@@ -3,6 +3,8 @@
 use Rattle.laws.specs.Answers.{OneResult, one-answer}
 use Rattle.record.specs.Unique.{answer-injective}
 use Rattle.record.proofs.read.read.Reads as read
+use Rattle.tree.specs.Unique as tree
+use Rattle.record.proofs.block.decode.Reads as decode
 use Rattle.record.proofs.text.found_line.Reads as found-line
 use Rattle.record.proofs.text.refused_line.Reads as refused-line
 
@@ -15,3 +17,6 @@ found-line-unique κs a r s v w p q = one-answer (p 0 0) (q 0 0)
 
 pub refused-line-unique : OneResult refused-line.Learnt
 refused-line-unique κs a r s v w p q = one-answer p q
+
+pub decode-unique : OneResult decode.Learnt
+decode-unique κs a r s v w p q = tree.answer-injective r s (one-answer p q)
