@@ -1,10 +1,13 @@
 -- No second answer: of each public function, two results that meet its contract are equal.
 -- The contracts are those of src/ themselves, as the check reads them: a weaker one has no such theorem.
-use Rattle.laws.specs.Answers.{OneResult, one-answer}
+use denote.Ref.{now}
+use Rattle.laws.specs.Answers.{OneResult, OneOutcome, one-answer}
 use Rattle.record.specs.Unique.{answer-injective}
+use Rattle.record.specs.Pieces.{one-piece}
 use Rattle.record.proofs.read.read.Reads as read
 use Rattle.tree.specs.Unique as tree
 use Rattle.record.proofs.block.decode.Reads as decode
+use Rattle.record.proofs.piece.lines.Reads as lines
 use Rattle.record.proofs.text.found_line.Reads as found-line
 use Rattle.record.proofs.text.refused_line.Reads as refused-line
 
@@ -20,3 +23,7 @@ refused-line-unique κs a r s v w p q = one-answer p q
 
 pub decode-unique : OneResult decode.Learnt
 decode-unique κs a r s v w p q = tree.answer-injective r s (one-answer p q)
+
+-- the buffer is the third argument
+pub lines-unique : OneOutcome (λ κs v. now (v .1 .1 .0)) lines.Learnt
+lines-unique κs a r s v w p q = one-piece p q

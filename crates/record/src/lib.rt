@@ -1,5 +1,6 @@
-// Recorded blocks: a record's fields from its bytes, and the line of an answer.
+// Recorded blocks: a record read, decoded, and its line; the lines of many records.
 pub mod block;
+pub mod piece;
 mod put;
 pub mod read;
 pub mod text;

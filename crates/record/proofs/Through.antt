@@ -1,0 +1,134 @@
+-- The lines of a piece in turn: before the first record, one record more, and where the text is whole.
+use Prim.Native.Nat.{ℕ, suc, _+_, _-_, _*_, _≤_, _<_, min}
+use mathlib.Core.Path.{_≡_, refl, sym, _∙_, ap}
+use mathlib.Core.List.{List, [], _∷_, _++_, append-assoc, append-nil}
+use native.Mathlib.Decide.{decLe}
+use native.Mathlib.Numerals.{add-one}
+use native.Mathlib.Omega.{arith}
+use lib.ListN.{length, take, drop, length-drop, drop-of-length-le}
+use lib.Seq.{sets, drop-drop, take-all}
+use Rattle.rules.specs.Record.{recordBytes, recordAnswer}
+use Rattle.rules.specs.Text.{line, mostRecords, recordsUpTo, linesFrom, textFrom}
+use Rattle.laws.specs.Texts.{text-none, text-stops}
+use Rattle.record.specs.Lines.{Put, Within, longest}
+use Rattle.record.specs.Pieces.{roomFor, Piece}
+use Rattle.record.specs.declared.piece.Written.the-variants.{Lines}
+use Rattle.record.proofs.Puts.{put-none, put-length, put-then}
+
+-- the lines of the records before a place are written; the text of the bytes from there on is what is left
+pub record Through (bytes : List ℕ) (number : ℕ) (before : List ℕ) (start end k : ℕ) (out : List ℕ) : Type 0 where
+  pub text : List ℕ
+  pub passed : ℕ
+  pub put : Put before 0 text end out
+  pub whole : text ++ textFrom k (drop start bytes) ≡ textFrom number bytes
+  pub inside : start ≤ length bytes
+  pub cut : start < length bytes → start ≡ recordBytes * passed
+  pub room : end ≤ longest * passed
+  pub fits : end ≤ length before
+
+pub through-none : (bytes : List ℕ) (number : ℕ) (before : List ℕ) → Through bytes number before 0 0 number before
+through-none bytes number before =
+    record {
+      text = [];
+      passed = 0;
+      put = put-none before 0;
+      whole = refl;
+      inside = omega arith;
+      cut = λ l. omega arith;
+      room = omega arith;
+      fits = omega arith;
+    }
+
+-- the first record's line, then the text of the bytes after it
+text-step : (number : ℕ) (bytes : List ℕ) → number < mostRecords → 0 < length bytes
+    → textFrom number bytes ≡ line number (recordAnswer (take recordBytes bytes)) ++ textFrom (suc number) (drop recordBytes bytes)
+unfolding textFrom recordsUpTo linesFrom
+text-step number [] l some = absurd (omega arith)
+text-step number (x ∷ xs) l some =
+    let e : mostRecords - number ≡ suc (mostRecords - suc number) = omega arith in
+    rw e
+
+-- where the record that begins at a place ends
+next-drop : (bytes : List ℕ) (start : ℕ) → drop (min (start + recordBytes) (length bytes)) bytes ≡ drop recordBytes (drop start bytes)
+next-drop bytes start = go (decLe (start + recordBytes) (length bytes)) ∙ sym (drop-drop recordBytes start bytes)
+  where
+    go : Dec (start + recordBytes ≤ length bytes) → drop (min (start + recordBytes) (length bytes)) bytes ≡ drop (start + recordBytes) bytes
+    go (yes l) =
+        let e : min (start + recordBytes) (length bytes) ≡ start + recordBytes = omega arith in
+        rw e
+    go (no l) =
+        drop-of-length-le bytes {i = min (start + recordBytes) (length bytes)} (omega arith)
+        ∙ sym (drop-of-length-le bytes {i = start + recordBytes} (omega arith))
+
+record-take : (bytes : List ℕ) (start : ℕ) → start ≤ length bytes
+    → take (min (start + recordBytes) (length bytes) - start) (drop start bytes) ≡ take recordBytes (drop start bytes)
+record-take bytes start inside = go (decLe (start + recordBytes) (length bytes))
+  where
+    go : Dec (start + recordBytes ≤ length bytes)
+        → take (min (start + recordBytes) (length bytes) - start) (drop start bytes) ≡ take recordBytes (drop start bytes)
+    go (yes l) =
+        let e : min (start + recordBytes) (length bytes) - start ≡ recordBytes = omega arith in
+        rw e
+    go (no l) =
+        let short : length (drop start bytes) ≡ length bytes - start = length-drop start bytes in
+        take-all (min (start + recordBytes) (length bytes) - start) (drop start bytes) (omega (arith, short)) ∙ sym (take-all recordBytes (drop start bytes) (omega (arith, short)))
+
+lines-injective : {a b : ℕ} → Lines a ≡ Lines b → a ≡ b
+lines-injective e = cc
+
+module _ {bytes : List ℕ} {number : ℕ} {before : List ℕ} {start end k : ℕ} {out : List ℕ} (t : Through bytes number before start end k out) where
+  -- the next line has room
+  pub through-room : start < length bytes → roomFor bytes ≤ length before → end + longest ≤ length out
+  through-room some wide = omega (arith, t .room, t .cut some, put-length (t .put))
+
+  -- one record more
+  pub through-next : {last next : ℕ} {after : List ℕ} → next ≡ min (start + recordBytes) (length bytes) → start < length bytes → k < mostRecords → roomFor bytes ≤ length before
+      → Within longest out end (line k (recordAnswer (take (next - start) (drop start bytes)))) last after
+      → Through bytes number before next last (k + 1) after
+  through-next {last} {next} {after} e some few wide written =
+      record {
+        text = t .text ++ shown;
+        passed = t .passed + 1;
+        put = put-then (t .put) (written .put);
+        whole =
+            append-assoc (t .text) shown (textFrom (k + 1) (drop next bytes))
+            ∙ ap (λ (r : List ℕ). t .text ++ r) (sym first)
+            ∙ t .whole;
+        inside = omega (arith, e);
+        cut = λ more. omega (arith, e, t .cut some);
+        room = omega (arith, t .room, written .short, written .put .ends);
+        fits = omega (arith, through-room some wide, put-length (t .put), written .short, written .put .ends);
+      }
+    where
+      rest : List ℕ
+      rest = drop start bytes
+
+      shown : List ℕ
+      shown = line k (recordAnswer (take (next - start) rest))
+
+      first : textFrom k rest ≡ shown ++ textFrom (k + 1) (drop next bytes)
+      first =
+          let left : length rest ≡ length bytes - start = length-drop start bytes in
+          rw (e, record-take bytes start (t .inside), next-drop bytes start, add-one k) (text-step k rest few (omega (arith, left)))
+
+  -- the text is whole
+  pub through-all : length bytes ≤ start → t .text ≡ textFrom number bytes
+  through-all l =
+      sym (append-nil (t .text))
+      ∙ ap (λ (r : List ℕ). t .text ++ r) (sym (rw (drop-of-length-le bytes l) (text-none k)))
+      ∙ t .whole
+
+  pub through-stopped : mostRecords ≤ k → t .text ≡ textFrom number bytes
+  through-stopped l = sym (append-nil (t .text)) ∙ ap (λ (r : List ℕ). t .text ++ r) (sym (text-stops k (drop start bytes) l)) ∙ t .whole
+
+  -- and then the piece is written
+  pub through-piece : roomFor bytes ≤ length before → t .text ≡ textFrom number bytes → Piece bytes number before (Lines end) out
+  through-piece wide all =
+      record {
+        small = λ l. absurd (omega arith);
+        wide = λ l. (ap Lines (length-text ∙ ap length all), t .put .holds ∙ ap (λ (shown : List ℕ). sets before 0 shown) all);
+        fits = λ len e. rw (sym (lines-injective e)) (t .fits);
+      }
+    where
+      length-text : end ≡ length (t .text)
+      length-text = omega (arith, t .put .ends)
