@@ -1,10 +1,10 @@
--- `blocks::pass` writes what of its buffer has lines.
+-- `stream::pass` writes what of its buffer has lines.
 use mathlib.Core.Path.{sym}
 use native.Mathlib.Omega.{arith}
 use lib.Seq.{length-take-le}
 use borrow.Author.Needs.{needs}
-use Rattle.blocks.proofs.pass.Statement.{statement}
-use Rattle.blocks.proofs.pass.Tie as tie
+use Rattle.stream.proofs.pass.Statement.{statement}
+use Rattle.stream.proofs.pass.Tie as tie
 
 read-full-requires : tie.Need-read-full-requires
 read-full-requires c κs = search needs

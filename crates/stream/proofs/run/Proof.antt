@@ -1,11 +1,11 @@
--- `blocks::main` ends: each turn has a record number that is larger, and there is a largest.
+-- `stream::run` ends: each turn has a record number that is larger, and there is a largest.
 use Prim.Native.Nat.{ℕ, _-_, _≤_}
 use mathlib.Core.Path.{_≡_, sym}
 use native.Mathlib.Omega.{arith}
 use lib.ListN.{length, length-replicate}
 use borrow.Author.Needs.{needs}
-use Rattle.blocks.proofs.main.Statement.{statement}
-use Rattle.blocks.proofs.main.Tie as tie
+use Rattle.stream.proofs.run.Statement.{statement}
+use Rattle.stream.proofs.run.Tie as tie
 
 abbrev Inv-loop : tie.InvT-loop
 Inv-loop piece₀ out₀ number₀ piece out number = (57600 ≡ length piece) × ((22456 ≡ length out) × (number ≤ 4294967295))
@@ -43,8 +43,8 @@ loop-again c = (omega arith, (omega arith, omega arith))
 returns-2 : tie.Need-returns-2 Inv-loop μ-loop
 returns-2 c = search needs
 
-pub main-spec : {M : Type 1} → statement M
-main-spec =
+pub run-spec : {M : Type 1} → statement M
+run-spec =
     tie.close
     (tie.spec
     Inv-loop
