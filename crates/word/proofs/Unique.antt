@@ -11,6 +11,7 @@ use Rattle.word.proofs.less.Reads as less
 use Rattle.word.proofs.block.block.Reads as block
 use Rattle.word.proofs.block.above.Reads as above
 use Rattle.word.proofs.block.copies.Reads as copies
+use Rattle.word.proofs.matrix.bytes.Reads as bytes
 use Rattle.word.proofs.matrix.map_byte.Reads as map-byte
 use Rattle.word.proofs.matrix.map.Reads as map
 use Rattle.word.proofs.message.spread.Reads as spread
@@ -47,6 +48,9 @@ above-unique κs a r s v w p q = word-injective r s (one-answer p q)
 
 pub copies-unique : OneResult copies.Learnt
 copies-unique κs a r s v w p q = word-injective r s (one-answer p q)
+
+pub bytes-unique : OneResult bytes.Learnt
+bytes-unique κs a r s v w p q = one-answer p q
 
 pub map-byte-unique : OneResult map-byte.Learnt
 map-byte-unique κs a r s v w p q = one-answer p q

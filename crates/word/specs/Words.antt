@@ -2,8 +2,11 @@
 use Prim.Native.Nat.{ℕ, _^_, min}
 use lib.Bits.{bitOr}
 use lib.Dec.{ltb}
-use mathlib.Core.Bool.{cond}
+use mathlib.Core.Bool.{true, cond}
+use mathlib.Core.List.{List, map}
 use mathlib.Core.Option.{Option, none, some}
+use Rattle.rules.specs.Below.{listBelow}
+use Rattle.rules.specs.Word.{codeword}
 use Rattle.rules.specs.Refusals.{largest}
 use Rattle.word.specs.declared.count.Fewest.{Fewest}
 use Rattle.word.specs.declared.count.Fewest.the-variants.{Ones, NoIndex}
@@ -19,6 +22,10 @@ sizeOf n = min n largest
 -- a word with a one put at index i; an index past the word changes nothing
 abbrev pub withOne : ℕ → ℕ → ℕ
 withOne w i = cond (ltb i (2 ^ largest)) (bitOr w (2 ^ i)) w
+
+-- the codewords of all bytes, in order
+abbrev pub byteWords : List ℕ
+byteWords = map (codeword 3) (listBelow 256 (λ b. true))
 
 -- the fewest ones, or that no index is unfrozen
 abbrev pub fewestOf : Fewest → Option ℕ

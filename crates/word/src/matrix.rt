@@ -2,40 +2,58 @@
 ghost use mathlib.Core.Path.{_≡_};
 ghost use Rattle.rules.specs.Word.{codeword};
 ghost use Rattle.rules.specs.Refusals.{largest};
-ghost use Rattle.word.specs.Words.{wordOf};
+ghost use Rattle.word.specs.Words.{wordOf, byteWords};
 use crate::Word;
 use crate::table::BYTES;
+
+// The codewords of all bytes, at n = 3. Naming the constant copies it, so whoever maps many bytes lends this table.
+pub fn bytes() -> [u8; 256]
+    ensures { λ r. ⌜ r ≡ byteWords ⌝ }
+{
+    BYTES
+}
+
+// The codeword of a byte, at n = 3, from that table.
+fn mapped(table: &[u8; 256], b: u8) -> u8
+    requires { ⌜ now table ≡ byteWords ⌝ }
+    ensures { λ r. ⌜ r ≡ codeword 3 b ⌝ }
+{
+    table[b as usize]
+}
 
 // The codeword of a byte, at n = 3.
 pub fn map_byte(b: u8) -> u8
     ensures { λ r. ⌜ r ≡ codeword 3 b ⌝ }
 {
-    BYTES[b as usize]
+    mapped(&bytes(), b)
 }
 
 // At n = 4: the upper half's codeword, and below it the codeword of the sum of both halves.
-fn map16(w: u16) -> u16
+fn map16(table: &[u8; 256], w: u16) -> u16
+    requires { ⌜ now table ≡ byteWords ⌝ }
     ensures { λ r. ⌜ r ≡ codeword 4 w ⌝ }
 {
     let upper = (w / 256) as u8;
     let lower = (w % 256) as u8;
-    (map_byte(upper) as u16) * 256 + (map_byte(lower ^ upper) as u16)
+    (mapped(table, upper) as u16) * 256 + (mapped(table, lower ^ upper) as u16)
 }
 
 // At n = 5, in the same way.
-fn map32(w: u32) -> u32
+fn map32(table: &[u8; 256], w: u32) -> u32
+    requires { ⌜ now table ≡ byteWords ⌝ }
     ensures { λ r. ⌜ r ≡ codeword 5 w ⌝ }
 {
     let upper = (w / 65536) as u16;
     let lower = (w % 65536) as u16;
-    (map16(upper) as u32) * 65536 + (map16(lower ^ upper) as u32)
+    (map16(table, upper) as u32) * 65536 + (map16(table, lower ^ upper) as u32)
 }
 
 // The codeword of an information word, at the largest n, which serves every n.
 pub fn map(w: Word) -> Word
     ensures { λ r. ⌜ wordOf r ≡ codeword largest (wordOf w) ⌝ }
 {
+    let table = bytes();
     let upper = (w / 4294967296) as u32;
     let lower = (w % 4294967296) as u32;
-    (map32(upper) as u64) * 4294967296 + (map32(lower ^ upper) as u64)
+    (map32(&table, upper) as u64) * 4294967296 + (map32(&table, lower ^ upper) as u64)
 }

@@ -5,6 +5,9 @@ use borrow.Author.Needs.{needs}
 use Rattle.word.proofs.matrix.map.Statement.{statement}
 use Rattle.word.proofs.matrix.map.Tie as tie
 
+bytes-requires : tie.Need-bytes-requires
+bytes-requires c κs = search needs
+
 cast-upper : tie.Need-cast-upper
 cast-upper c = search needs
 
@@ -30,12 +33,13 @@ add-result : tie.Need-add-result
 add-result c = search needs
 
 returns : tie.Need-returns
-returns c = rw (c .before .map32 .ensures, c .map322 .ensures) (sym (codeword-halves 5 _))
+returns c = rw (c .before .before .map32 .ensures, c .map322 .ensures) (sym (codeword-halves 5 _))
 
 pub map-spec : {M : Type 1} → statement M
 map-spec =
     tie.close
     (tie.spec
+    bytes-requires
     cast-upper
     cast-lower
     map32-requires

@@ -11,8 +11,8 @@ cast-upper c = search needs
 cast-lower : tie.Need-cast-lower
 cast-lower c = search needs
 
-map-byte-requires : tie.Need-map-byte-requires
-map-byte-requires c κs = search needs
+mapped-requires : tie.Need-mapped-requires
+mapped-requires c κs = search needs
 
 cast-result : tie.Need-cast-result
 cast-result c = search needs
@@ -20,8 +20,8 @@ cast-result c = search needs
 mul-result : tie.Need-mul-result
 mul-result c = search needs
 
-map-byte-requires-2 : tie.Need-map-byte-requires-2
-map-byte-requires-2 c κs = search needs
+mapped-requires-2 : tie.Need-mapped-requires-2
+mapped-requires-2 c κs = search needs
 
 cast-result-2 : tie.Need-cast-result-2
 cast-result-2 c = search needs
@@ -30,7 +30,7 @@ add-result : tie.Need-add-result
 add-result c = search needs
 
 returns : tie.Need-returns
-returns c = rw (c .before .map-byte .ensures, c .map-byte2 .ensures) (sym (codeword-halves 3 _))
+returns c = rw (c .before .mapped .ensures, c .mapped2 .ensures) (sym (codeword-halves 3 _))
 
 pub map16-spec : {M : Type 1} → statement M
 map16-spec =
@@ -38,10 +38,10 @@ map16-spec =
     (tie.spec
     cast-upper
     cast-lower
-    map-byte-requires
+    mapped-requires
     cast-result
     mul-result
-    map-byte-requires-2
+    mapped-requires-2
     cast-result-2
     add-result
     returns)
