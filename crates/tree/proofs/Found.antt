@@ -1,12 +1,14 @@
 -- What the end of the walk says of the answer: that the allowance was used up, or the fields of the decoding.
-use Prim.Native.Nat.{ℕ, _≤_}
+use Prim.Native.Nat.{ℕ, _^_, _≤_, _<_}
 use mathlib.Core.Path.{_≡_, refl, sym, ap, _∙_}
 use mathlib.Core.Bool.{Bool, true, false, cond}
 use mathlib.Core.Option.{none, some, Option·none-ne-some, Option·some-injective}
 use mathlib.Core.List.{List, [], _∷_}
+use native.Mathlib.Decide.{decLt}
 use native.Mathlib.Omega.{arith}
 use lib.Dec.{ltb}
 use lib.IntN.{ℤ}
+use borrow.Author.Tests.{ltb-true, ltb-false}
 use Rattle.rules.specs.Word.{codeword, gather}
 use Rattle.rules.specs.Level.{nothing, best, levelCost, wordDistance, leastWord}
 use Rattle.rules.specs.Walk.{State, keepBest, walkVisits}
@@ -22,7 +24,8 @@ use Rattle.tree.specs.Search.{searchAnswer}
 use Rattle.tree.specs.Reading.{decodedOf}
 use Rattle.tree.specs.declared.Decoded.{Decoded}
 use Rattle.tree.specs.declared.state.Walked.{Walked}
-use Rattle.tree.proofs.Trying.{running-state}
+use Rattle.tree.proofs.Keeping.{has-best, no-best}
+use Rattle.tree.proofs.Trying.{running-state, ended-state}
 
 -- none by a test that picks none or some: the test passed; some: it failed, and picked that
 test-none : (t : Bool) (x : State keepBest) → none ≡ cond t none (some x) → t ≡ true
@@ -33,17 +36,20 @@ test-some : (t : Bool) (x y : State keepBest) → some y ≡ cond t none (some x
 test-some true x y e = absurd (Option·none-ne-some y (sym e))
 test-some false x y e = (refl, Option·some-injective y x e)
 
--- a kept word that is there has the parts of the state
+-- a kept word that is there has the parts of the state, and a distance of 32 bits
 record Kept (s : Walked) (p d : ℕ) : Type 0 where
   distance : s .distance ≡ p
   word : s .word ≡ d
+  small : s .distance < 2 ^ 32
 
 kept-parts : (s : Walked) (p d : ℕ) → keptOf s ≡ best p d → Kept s p d
-kept-parts s p d e = go (s .found) e
+kept-parts s p d e = go (decLt (s .distance) (2 ^ 32))
   where
-    go : (f : Bool) → cond f (best (s .distance) (s .word)) nothing ≡ best p d → Kept s p d
-    go true q = record { distance = cc; word = cc }
-    go false q = let z : _≡_ {A = ℕ} 0 1 = cc in absurd (omega arith)
+    go : Dec (s .distance < 2 ^ 32) → Kept s p d
+    go (yes h) = let q : best (s .distance) (s .word) ≡ best p d = sym (has-best s h) ∙ e in record { distance = cc; word = cc; small = h }
+    go (no h) =
+        let q : nothing ≡ best p d = sym (no-best s (omega arith)) ∙ e in
+        let z : _≡_ {A = ℕ} 0 1 = cc in absurd (omega arith)
 
 module _ (n mask folding allowance : ℕ) (levels : List ℤ) (end : Walked) where
   -- the least word, its distance and the walk's total
@@ -56,23 +62,27 @@ module _ (n mask folding allowance : ℕ) (levels : List ℤ) (end : Walked) whe
 
   -- what the walk ended with, within the allowance
   abbrev pub Ends : Type 0
-  Ends = stateOf end ≡ cond (ltb allowance (walkVisits n mask (levelCost levels) folding)) none (some finished)
+  Ends = stateOf allowance end ≡ cond (ltb allowance (walkVisits n mask (levelCost levels) folding)) none (some finished)
 
-  pub used-up : Ends → end .stopped ≡ true → ltb allowance (walkVisits n mask (levelCost levels) folding) ≡ true
-  used-up ends off = test-none _ finished (sym (ended off) ∙ ends)
-    where
-      ended : end .stopped ≡ true → stateOf end ≡ none
-      ended e = rw e
+  pub used-up : Ends → ltb allowance (end .visits) ≡ true → ltb allowance (walkVisits n mask (levelCost levels) folding) ≡ true
+  used-up ends off = test-none _ finished (sym (ended-state allowance end (ltb-true _ _ off)) ∙ ends)
 
-  module _ (ends : Ends) (on : end .stopped ≡ false) where
+  module _ (ends : Ends) (on : ltb allowance (end .visits) ≡ false) where
     parts : (ltb allowance (walkVisits n mask (levelCost levels) folding) ≡ false) × (runningOf end ≡ finished)
-    parts = test-some _ finished (runningOf end) (sym (running-state end on) ∙ ends)
+    parts = test-some _ finished (runningOf end) (sym (running-state allowance end (ltb-false _ _ on)) ∙ ends)
 
     pub enough : ltb allowance (walkVisits n mask (levelCost levels) folding) ≡ false
     enough = parts .0
 
     kept : Kept end (wordDistance n (levelCost levels) (leastWord n mask (levelCost levels))) (leastWord n mask (levelCost levels))
     kept = kept-parts end _ _ (ap (λ (s : State keepBest). s .kept) (parts .1))
+
+    -- the distance and the visits fit their fields
+    pub distance-fits : end .distance < 2 ^ 32
+    distance-fits = kept .small
+
+    pub visits-fit : allowance < 2 ^ 32 → end .visits < 2 ^ 32
+    visits-fit h = omega (arith, h, ltb-false allowance (end .visits) on)
 
     -- the decoding's fields
     pub found-right : n ≤ 6 → (message x : ℕ) → message ≡ gather (sizeOf n) mask (end .word) → x ≡ codeword 6 (end .word)

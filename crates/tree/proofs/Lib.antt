@@ -1,3 +1,4 @@
+pub mod Keeping
 pub mod Widening
 pub mod WideningBy
 pub mod SeatLoops

@@ -79,8 +79,8 @@ module _ {n : ℕ} {levels : List ℤ} {folding : ℕ} (given : Searchable n lev
 
     -- what the walk asks of the table
     pub table-right : (covered : List ℕ) (tree : Tree) → tree .n ≡ n → tree .folding ≡ folding → tree .size ≡ size → Covered covered many size
-        → Table table covered tree many
-    table-right covered tree isN isFolding isSize copied =
+        → tree .allowance < 2 ^ 32 → Table table covered tree many
+    table-right covered tree isN isFolding isSize copied bounded =
         record {
           sized = isSize ∙ sized ∙ ap (λ (f : ℕ). 2 ^ ones f) (sym isFolding);
           few = rw isFolding (given .few);
@@ -88,6 +88,7 @@ module _ {n : ℕ} {levels : List ℤ} {folding : ℕ} (given : Searchable n lev
           near = rw isSize (λ k j hk hj. omega (arith, row-bound (seatCost levels index (k * size)) size most size-le (cheap k hk) _ (entry-in k j hk hj)));
           narrow = rw isSize (λ k j hk hj. narrow k j hk hj);
           copied = rw isSize copied;
+          bounded = bounded;
         }
       where
         narrow : (k j : ℕ) → k < many → j < 2 ^ size → entryAt table size k j % 256 < 2 ^ size

@@ -1,7 +1,6 @@
 -- One step of a node: what is known where a group's candidates are tried, and of the node one level down.
 use Prim.Native.Nat.{ℕ, zero, suc, _+_, _*_, _/_, _%_, _^_, _≤_, _<_, min}
 use mathlib.Core.Path.{_≡_, sym, ap, ap₂, _∙_}
-use mathlib.Core.Bool.{false}
 use mathlib.Core.List.{List}
 use native.Mathlib.Nat.{suc-mul, mul-one, mul-le-mul-left, mul-le-mul-right, mod-lt, mod-eq-of-lt, le-trans, lt-of-lt-of-le, mul-comm}
 use native.Mathlib.Decide.{decLt}
@@ -51,8 +50,8 @@ size-le size two = omega arith
 size-le size four = omega arith
 size-le size eight = omega arith
 
-module _ {table : List (List ℕ)} {index covered : List ℕ} {tree : Tree} {k partial d x : ℕ} {s : Walked}
-    (given : Given table index covered tree (suc k) partial d x s) where
+module _ {table : List (List ℕ)} {index covered bytes : List ℕ} {tree : Tree} {k partial d x : ℕ} {s : Walked}
+    (given : Given table index covered bytes tree (suc k) partial d x s) where
   sized : tree .size ≡ 2 ^ ones (tree .folding)
   sized = given .rows .sized
 
@@ -157,16 +156,13 @@ module _ {table : List (List ℕ)} {index covered : List ℕ} {tree : Tree} {k p
     copies-fit = lt-of-lt-of-le (rw (mul-comm (getD covered k 0) own) product) (pow-mono slots-le)
 
     -- the branch distance leaves room for the groups below
-    pub branch-fits : entryAt table (tree .size) k j / 256 < 2 ^ 32
-    branch-fits = omega (arith, given .rows .near k j (omega arith) h, given .begun .room, suc-mul k (tree .size * most))
-
     pub total-fits : partial + entryAt table (tree .size) k j / 256 < 2 ^ 32
     total-fits = omega (arith, given .rows .near k j (omega arith) h, given .begun .room, suc-mul k (tree .size * most))
 
     -- what the node one level down is given
     pub given-down : (next code total : ℕ) (after : Walked) → next ≡ bitXor d (added % 2 ^ 64) → code ≡ bitXor x (getD covered k 0 * own)
-        → total ≡ partial + entryAt table (tree .size) k j / 256 → after .stopped ≡ false
-        → Given table index covered tree k total next code after
+        → total ≡ partial + entryAt table (tree .size) k j / 256 → after .visits ≤ tree .allowance
+        → Given table index covered bytes tree k total next code after
     given-down next code total after isNext isCode isTotal running =
         record {
           seated = given .seated;
@@ -178,6 +174,7 @@ module _ {table : List (List ℕ)} {index covered : List ℕ} {tree : Tree} {k p
                 near = λ i e l m. given .rows .near i e (omega arith) m;
                 narrow = λ i e l m. given .rows .narrow i e (omega arith) m;
                 copied = λ i l. given .rows .copied i (omega arith);
+                bounded = given .rows .bounded;
               };
           begun =
               record {
@@ -189,6 +186,7 @@ module _ {table : List (List ℕ)} {index covered : List ℕ} {tree : Tree} {k p
                     ∙ sym (rw (← sized) at (down .code)) ∙ ap (codeword (tree .n)) (sym (next-word next isNext));
                 room = omega (arith, given .rows .near k j (omega arith) h, given .begun .room, suc-mul k (tree .size * most));
               };
+          mapped = given .mapped;
           running = running;
         }
 

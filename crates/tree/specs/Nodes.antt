@@ -1,14 +1,13 @@
 -- What a node of the code's walk is given, and the candidates that the table of rows holds for it.
 use Prim.Native.Nat.{ℕ, _+_, _*_, _/_, _%_, _^_, _≤_, _<_}
 use mathlib.Core.Path.{_≡_}
-use mathlib.Core.Bool.{false}
 use mathlib.Core.List.{List}
 use lib.Count.{ones}
 use Rattle.rules.specs.Word.{bit, codeword}
 use Rattle.rules.specs.Walk.{Candidate}
 use Rattle.laws.specs.SeatWords.{seat}
 use Rattle.laws.specs.SeatedRow.{blockOf, entryCandidates}
-use Rattle.word.specs.Words.{wordOf}
+use Rattle.word.specs.Words.{wordOf, byteWords}
 use Rattle.tree.specs.Seating.{Seated, Covered}
 use Rattle.tree.specs.Tables.{entryAt, rowAt}
 use Rattle.tree.specs.declared.walk.Tree.{Tree}
@@ -34,6 +33,7 @@ pub record Table (table : List (List ℕ)) (covered : List ℕ) (tree : Tree) (l
   pub near : (k j : ℕ) → k < left → j < 2 ^ (tree .size) → entryAt table (tree .size) k j / 256 ≤ tree .size * most
   pub narrow : (k j : ℕ) → k < left → j < 2 ^ (tree .size) → entryAt table (tree .size) k j % 256 < 2 ^ (tree .size)
   pub copied : Covered covered left (tree .size)
+  pub bounded : tree .allowance < 2 ^ 32
 
 -- a word in seat order of which the groups that are left are still empty, and its codeword
 pub record Begun (tree : Tree) (left partial d x : ℕ) : Type 0 where
@@ -43,8 +43,9 @@ pub record Begun (tree : Tree) (left partial d x : ℕ) : Type 0 where
   pub room : partial + left * (tree .size * most) < 2 ^ 32
 
 -- all that a node is given
-pub record Given (table : List (List ℕ)) (index covered : List ℕ) (tree : Tree) (left partial d x : ℕ) (s : Walked) : Type 0 where
+pub record Given (table : List (List ℕ)) (index covered bytes : List ℕ) (tree : Tree) (left partial d x : ℕ) (s : Walked) : Type 0 where
   pub seated : Seated index (tree .n) (tree .folding)
   pub rows : Table table covered tree left
   pub begun : Begun tree left partial d x
-  pub running : s .stopped ≡ false
+  pub mapped : bytes ≡ byteWords
+  pub running : s .visits ≤ tree .allowance

@@ -49,19 +49,22 @@ fn search(n: u32, levels: &[i32], frozen: Word, folding: u32, allowance: u32) ->
         folding,
         size,
         frozen: seated,
-        allowance,
+        allowance: allowance as u64,
     };
-    let end = walk::walk(&rows, &index, &covered, tree, groups);
-    if end.stopped {
+    let bytes = word::matrix::bytes();
+    let end = walk::walk(&rows, &index, &covered, &bytes, tree, groups);
+    if state::used_up(end, allowance as u64) {
         return Answer::Refused(Refusal::Allowance);
     }
     let d = end.word;
+    let distance = end.distance as u32;
+    let visits = end.visits as u32;
     Answer::Found(Decoded {
         message: word::message::gather(n, frozen, d),
         d,
         x: word::matrix::map(d),
-        distance: end.distance,
-        visits: end.visits,
+        distance,
+        visits,
     })
 }
 

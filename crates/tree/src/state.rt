@@ -1,60 +1,66 @@
-// The state of the walk: the best word by value, the visits, and whether the allowance was used up.
+// The state of the walk: the best word by value with its distance, and the visits.
 ghost use mathlib.Core.Path.{_≡_};
-ghost use mathlib.Core.Bool.{false};
+ghost use Prim.Native.Nat.{_^_, _<_};
+ghost use lib.Dec.{ltb};
 ghost use Rattle.rules.specs.Level.{nothing, best, keep};
 ghost use Rattle.rules.specs.Walk.{isFarther};
 ghost use Rattle.word.specs.Words.{wordOf};
 ghost use Rattle.tree.specs.States.{keptOf};
 use word::Word;
 
+// A distance greater than any word's: there is no best word yet.
+const NO_BEST: u64 = 4294967296;
+
+// The allowance is used up where the visits are greater.
 pub(crate) struct Walked {
-    pub(crate) found: bool,
-    pub(crate) distance: u32,
     pub(crate) word: Word,
-    pub(crate) visits: u32,
-    pub(crate) stopped: bool,
+    pub(crate) distance: u64,
+    pub(crate) visits: u64,
 }
 
 // No best word and no visit yet.
 pub(crate) fn start() -> Walked
-    ensures { λ r. ⌜ (keptOf r ≡ nothing) × (r .visits ≡ 0) × (r .stopped ≡ false) ⌝ }
+    ensures { λ r. ⌜ (keptOf r ≡ nothing) × (r .visits ≡ 0) ⌝ }
 {
     Walked {
-        found: false,
-        distance: 0,
         word: 0,
+        distance: NO_BEST,
         visits: 0,
-        stopped: false,
     }
 }
 
+// Whether the visits have passed the allowance.
+pub(crate) fn used_up(s: Walked, allowance: u64) -> bool
+    ensures { λ r. ⌜ r ≡ ltb allowance (s .visits) ⌝ }
+{
+    allowance < s.visits
+}
+
 // Whether a best word exists and a partial distance is greater than its distance.
-pub(crate) fn farther(s: Walked, partial: u32) -> bool
+pub(crate) fn farther(s: Walked, partial: u64) -> bool
+    requires { ⌜ partial < 2 ^ 32 ⌝ }
     ensures { λ r. ⌜ r ≡ isFarther (keptOf s) partial ⌝ }
 {
-    if s.found { s.distance < partial } else { false }
+    s.distance < partial
 }
 
 // The state with a word as its best.
-fn with_best(s: Walked, distance: u32, w: Word) -> Walked
-    ensures { λ r. ⌜ (keptOf r ≡ best distance (wordOf w)) × (r .visits ≡ s .visits) × (r .stopped ≡ s .stopped) ⌝ }
+fn with_best(s: Walked, distance: u64, w: Word) -> Walked
+    requires { ⌜ distance < 2 ^ 32 ⌝ }
+    ensures { λ r. ⌜ (keptOf r ≡ best distance (wordOf w)) × (r .visits ≡ s .visits) ⌝ }
 {
     Walked {
-        found: true,
-        distance,
         word: w,
+        distance,
         visits: s.visits,
-        stopped: s.stopped,
     }
 }
 
 // The word is kept if there is no best, or if it is nearer, or equally near with a smaller number.
-pub(crate) fn keep_word(s: Walked, distance: u32, w: Word) -> Walked
-    ensures { λ r. ⌜ (keptOf r ≡ keep distance (wordOf w) (keptOf s)) × (r .visits ≡ s .visits) × (r .stopped ≡ s .stopped) ⌝ }
+pub(crate) fn keep_word(s: Walked, distance: u64, w: Word) -> Walked
+    requires { ⌜ distance < 2 ^ 32 ⌝ }
+    ensures { λ r. ⌜ (keptOf r ≡ keep distance (wordOf w) (keptOf s)) × (r .visits ≡ s .visits) ⌝ }
 {
-    if !s.found {
-        return with_best(s, distance, w);
-    }
     if distance < s.distance {
         return with_best(s, distance, w);
     }

@@ -2,14 +2,14 @@
 // Words are in seat order; a word is put back in index order where it is kept.
 ghost use mathlib.Core.Path.{_≡_};
 ghost use mathlib.Core.Option.{some};
-ghost use Prim.Native.Nat.{_*_, _/_, _%_, _^_, _<_};
+ghost use Prim.Native.Nat.{_*_, _%_, _^_, _<_};
 ghost use lib.ListN.{getD};
 ghost use lib.Bits.{bitAnd, bitXor};
 ghost use lib.Dec.{eqb};
 ghost use Rattle.rules.specs.Walk.{keepBest};
 ghost use Rattle.laws.specs.Allowance.{walkIn};
 ghost use Rattle.laws.specs.SeatWords.{unseat};
-ghost use Rattle.word.specs.Words.{wordOf};
+ghost use Rattle.word.specs.Words.{wordOf, byteWords};
 ghost use Rattle.tree.specs.States.{empty, stateOf};
 ghost use Rattle.tree.specs.Tables.{Inside, entryAt};
 ghost use Rattle.tree.specs.Nodes.{Table, Given, rowCandidates};
@@ -19,6 +19,7 @@ use crate::state::Walked;
 use crate::state::farther;
 use crate::state::keep_word;
 use crate::state::start;
+use crate::state::used_up;
 use word::Word;
 
 // What every node of one tree shares: the frozen mask in seat order, and how many indices a group has.
@@ -27,7 +28,7 @@ pub(crate) struct Tree {
     pub(crate) folding: u32,
     pub(crate) size: usize,
     pub(crate) frozen: Word,
-    pub(crate) allowance: u32,
+    pub(crate) allowance: u64,
 }
 
 // Entry j of the sorted row of group k.
@@ -46,14 +47,6 @@ fn own_bits(e: u64, forced: u8) -> u8
     ensures { λ r. ⌜ r ≡ bitXor (e % 256) forced ⌝ }
 {
     ((e % 256) as u8) ^ forced
-}
-
-// The branch distance of an entry.
-fn branch(e: u64) -> u32
-    requires { ⌜ e / 256 < 2 ^ 32 ⌝ }
-    ensures { λ r. ⌜ r ≡ e / 256 ⌝ }
-{
-    (e / 256) as u32
 }
 
 // Whether a filling has no frozen bit.
@@ -76,15 +69,16 @@ fn node(
     rows: &[[u64; 256]; 8],
     index: &[usize; 64],
     covered: &[Word; 64],
+    bytes: &[u8; 256],
     tree: Tree,
     left: usize,
-    partial: u32,
+    partial: u64,
     d: Word,
     x: Word,
     state: Walked,
 ) -> Walked
-    requires { ⌜ Given (now rows) (now index) (now covered) tree left partial d x state ⌝ }
-    ensures { λ r. ⌜ stateOf r ≡ walkIn keepBest (tree .allowance) (rowCandidates (now (rows .entry)) tree) left partial (unseat (tree .n) (tree .folding) (wordOf d)) (stateOf state) ⌝ }
+    requires { ⌜ Given (now rows) (now index) (now covered) (now bytes) tree left partial d x state ⌝ }
+    ensures { λ r. ⌜ stateOf (tree .allowance) r ≡ walkIn keepBest (tree .allowance) (rowCandidates (now (rows .entry)) tree) left partial (unseat (tree .n) (tree .folding) (wordOf d)) (stateOf (tree .allowance) state) ⌝ }
 {
     if left == 0 {
         return keep_word(state, partial, unseated(index, tree.n, tree.folding, d));
@@ -100,30 +94,20 @@ fn node(
     while j < entries {
         let e = entry(rows, size, k, j);
         let own = own_bits(e, forced);
-        let filling = word::matrix::map_byte(own);
+        let filling = bytes[own as usize];
         if is_open(filling, shut) {
-            if tree.allowance <= s.visits {
-                s.stopped = true;
+            s.visits = s.visits + 1;
+            if used_up(s, tree.allowance) {
                 return s;
             }
-            s.visits = s.visits + 1;
-            let total = partial + branch(e);
+            let total = partial + e / 256;
             if farther(s, total) {
                 return s;
             }
             let next = word::xor(d, word::block::above(filling, at));
-            s = node(
-                rows,
-                index,
-                covered,
-                tree,
-                k,
-                total,
-                next,
-                coded(x, covered, k, own),
-                s,
-            );
-            if s.stopped {
+            let code = coded(x, covered, k, own);
+            s = node(rows, index, covered, bytes, tree, k, total, next, code, s);
+            if used_up(s, tree.allowance) {
                 return s;
             }
         }
@@ -137,11 +121,12 @@ pub(crate) fn walk(
     rows: &[[u64; 256]; 8],
     index: &[usize; 64],
     covered: &[Word; 64],
+    bytes: &[u8; 256],
     tree: Tree,
     left: usize,
 ) -> Walked
-    requires { ⌜ Seated (now index) (tree .n) (tree .folding) × Table (now rows) (now covered) tree left ⌝ }
-    ensures { λ r. ⌜ stateOf r ≡ walkIn keepBest (tree .allowance) (rowCandidates (now (rows .entry)) tree) left 0 0 (some empty) ⌝ }
+    requires { ⌜ Seated (now index) (tree .n) (tree .folding) × Table (now rows) (now covered) tree left × (now bytes ≡ byteWords) ⌝ }
+    ensures { λ r. ⌜ stateOf (tree .allowance) r ≡ walkIn keepBest (tree .allowance) (rowCandidates (now (rows .entry)) tree) left 0 0 (some empty) ⌝ }
 {
-    node(rows, index, covered, tree, left, 0, 0, 0, start())
+    node(rows, index, covered, bytes, tree, left, 0, 0, 0, start())
 }

@@ -1,13 +1,17 @@
 -- `tree::search` meets its contract: the steps make what the walk asks, and the walk's end decides the answer.
 use Prim.Native.Nat.{ℕ, _*_, _%_, _^_, _≤_}
-use mathlib.Core.Path.{_≡_, refl, ap, _∙_}
+use mathlib.Core.Path.{_≡_, refl, sym, ap, _∙_}
+use mathlib.Core.Bool.{false}
+use mathlib.Core.Option.{none}
 use native.Mathlib.Omega.{arith}
 use lib.Count.{ones}
+use lib.Dec.{ltb}
 use lib.Pow.{pow-mono, pow-pos}
 use borrow.Author.Needs.{needs}
+use Rattle.tree.specs.Empty.{firstEmpty}
 use Rattle.tree.proofs.WideningBy.{step-shifted}
 use Rattle.tree.proofs.Searching.{groups-are, all-slots, levelled, table-right, walked}
-use Rattle.tree.proofs.Found.{used-up, enough, found-right, answer-seven, answer-eight, answer-found}
+use Rattle.tree.proofs.Found.{Ends, used-up, enough, distance-fits, visits-fit, found-right, answer-seven, answer-eight, answer-found}
 use Rattle.tree.proofs.search.Statement.{statement}
 use Rattle.tree.proofs.search.Tie as tie
 
@@ -64,27 +68,76 @@ covered-requires c κs =
     let sized = size-is _ _ (given .few) (c .before .before .before .before .before .before .before .folding-size .ensures) in
     (rw sized (pow-pos _), omega (arith, all-slots given (c .before .before .before .before .before .before .seats .ensures) _ _ sized refl, pow-mono {j = 6} (given .small)))
 
+bytes-requires : tie.Need-bytes-requires
+bytes-requires c κs = search needs
+
 walk-requires : tie.Need-walk-requires
 walk-requires c κs =
-    let given = c .before .before .before .before .before .before .before .before .before .before .before .before .pre in
-    let sized = size-is _ _ (given .few) (c .before .before .before .before .before .before .before .before .before .before .before .folding-size .ensures) in
-    let seated = c .before .before .before .before .before .before .before .before .before .before .seats .ensures in
-    (seated, table-right given seated _ _ sized refl _ (c .before .before .before .before .rows .ensures) _ _ refl refl refl (c .before .before .before .covered .ensures))
+    let rows = c .before .before .before .before .before .before in
+    let seats = rows .before .before .before .before .before .before in
+    let given = seats .before .before .pre in
+    let sized = size-is _ _ (given .few) (seats .before .folding-size .ensures) in (
+      seats .seats .ensures,
+      table-right given (seats .seats .ensures) _ _ sized refl _ (rows .rows .ensures) _ _ refl refl refl (c .before .before .before .before .before .covered .ensures) (search needs),
+      c .before .before .before .before .bytes .ensures,
+    )
+
+used-up-requires : tie.Need-used-up-requires
+used-up-requires c κs = search needs
+
+-- after the walk: what was given, that every level has a candidate, and what the walk ended with
+abbrev begun : tie.After-walk → tie.Start
+begun c = c .before .before .before .before .before .before .before .before .before .before .before .before .before .before .before
+
+candidates : (c : tie.After-walk) → firstEmpty (begun c .args .n) (begun c .args .frozen) (begun c .args .folding) ≡ none
+candidates c =
+    let seats = c .before .before .before .before .before .before .before .before .before .before .before .before .before in
+    let given = seats .before .before .pre in
+    let sized = size-is _ _ (given .few) (seats .before .folding-size .ensures) in
+    let first =
+    c .before .before .before .before .before .before .before .before .before .before .first-empty .ensures _ _ _
+    (record { fits = given .fits; sized = sized; all = groups-are given (seats .seats .ensures) _ _ sized refl; seated = c .before .before .before .before .before .before .before .before .before .before .before .seated .ensures })
+    in
+    first .absent (omega (arith, first .inside, c .before .before .before .before .before .before .before .before .before .if1 .left))
+
+ends : (c : tie.After-walk)
+    → Ends (begun c .args .n) (begun c .args .frozen) (begun c .args .folding) (begun c .args .allowance) (begun c .args .levels .now) (c .walk .result)
+ends c =
+    let seats = c .before .before .before .before .before .before .before .before .before .before .before .before .before in
+    let given = seats .before .before .pre in
+    let sized = size-is _ _ (given .few) (seats .before .folding-size .ensures) in
+    c .walk .ensures
+    ∙ walked given (seats .seats .ensures) _ _ sized refl _ (c .before .before .before .before .before .before .before .rows .ensures) _ _ refl refl refl (c .before .before .before .before .before .before .before .before .before .before .before .seated .ensures)
 
 returns-2 : tie.Need-returns-2
 returns-2 c =
-    let given = c .before .before .before .before .before .before .before .before .before .before .before .before .before .before .pre in
-    let sized = size-is _ _ (given .few) (c .before .before .before .before .before .before .before .before .before .before .before .before .before .folding-size .ensures) in
-    let seated = c .before .before .before .before .before .before .before .before .before .before .before .before .seats .ensures in
-    let first =
-    c .before .before .before .before .before .before .before .before .before .first-empty .ensures _ _ _
-    (record { fits = given .fits; sized = sized; all = groups-are given seated _ _ sized refl; seated = c .before .before .before .before .before .before .before .before .before .before .seated .ensures })
+    let w = c .before .before in
+    let given = begun w .args in
+    answer-eight _ _ _ _ _ (candidates w)
+    (used-up (given .n) (given .frozen) (given .folding) (given .allowance) (given .levels .now) (w .walk .result) (ends w) (sym (c .before .used-up .ensures) ∙ c .if2 .taken))
+
+-- a walk within its allowance
+within : (c : tie.Else2) → ltb (begun (c .before .before) .args .allowance) (c .before .before .walk .result .visits) ≡ false
+within c = sym (c .before .used-up .ensures) ∙ c .if2 .left
+
+cast-distance : tie.Need-cast-distance
+cast-distance c =
+    let w = c .before .before .before in
+    let given = begun w .args in
+    let fits =
+    distance-fits (given .n) (given .frozen) (given .folding) (given .allowance) (given .levels .now) (w .walk .result) (ends w) (within (c .before))
     in
-    let ends =
-    c .before .walk .ensures
-    ∙ walked given seated _ _ sized refl _ (c .before .before .before .before .before .before .rows .ensures) _ _ refl refl refl (c .before .before .before .before .before .before .before .before .before .before .seated .ensures)
+    omega (arith, fits)
+
+cast-visits : tie.Need-cast-visits
+cast-visits c =
+    let w = c .before .before .before .before in
+    let given = begun w .args in
+    let fits =
+    visits-fit (given .n) (given .frozen) (given .folding) (given .allowance) (given .levels .now) (w .walk .result) (ends w)
+    (within (c .before .before)) (begun w .fits .allowance .fits)
     in
-    answer-eight _ _ _ _ _ (first .absent (omega (arith, first .inside, c .before .before .before .before .before .before .before .before .if1 .left))) (used-up (c .before .before .before .before .before .before .before .before .before .before .before .before .before .before .args .n) (c .before .before .before .before .before .before .before .before .before .before .before .before .before .before .args .frozen) (c .before .before .before .before .before .before .before .before .before .before .before .before .before .before .args .folding) (c .before .before .before .before .before .before .before .before .before .before .before .before .before .before .args .allowance) (c .before .before .before .before .before .before .before .before .before .before .before .before .before .before .args .levels .now) (c .before .walk .result) ends (c .if2 .taken))
+    omega (arith, fits)
 
 gather-requires : tie.Need-gather-requires
 gather-requires c κs = search needs
@@ -94,19 +147,13 @@ map-requires c κs = search needs
 
 returns-3 : tie.Need-returns-3
 returns-3 c =
-    let given = c .before .before .before .before .before .before .before .before .before .before .before .before .before .before .before .before .pre in
-    let sized = size-is _ _ (given .few) (c .before .before .before .before .before .before .before .before .before .before .before .before .before .before .before .folding-size .ensures) in
-    let seated = c .before .before .before .before .before .before .before .before .before .before .before .before .before .before .seats .ensures in
-    let first =
-    c .before .before .before .before .before .before .before .before .before .before .before .first-empty .ensures _ _ _
-    (record { fits = given .fits; sized = sized; all = groups-are given seated _ _ sized refl; seated = c .before .before .before .before .before .before .before .before .before .before .before .before .seated .ensures })
-    in
-    let ends =
-    c .before .before .before .walk .ensures
-    ∙ walked given seated _ _ sized refl _ (c .before .before .before .before .before .before .before .before .rows .ensures) _ _ refl refl refl (c .before .before .before .before .before .before .before .before .before .before .before .before .seated .ensures)
-    in
-    answer-found _ _ _ _ _ (first .absent (omega (arith, first .inside, c .before .before .before .before .before .before .before .before .before .before .if1 .left))) (enough (c .before .before .before .before .before .before .before .before .before .before .before .before .before .before .before .before .args .n) (c .before .before .before .before .before .before .before .before .before .before .before .before .before .before .before .before .args .frozen) (c .before .before .before .before .before .before .before .before .before .before .before .before .before .before .before .before .args .folding) (c .before .before .before .before .before .before .before .before .before .before .before .before .before .before .before .before .args .allowance) (c .before .before .before .before .before .before .before .before .before .before .before .before .before .before .before .before .args .levels .now) (c .before .before .before .walk .result) ends (c .before .before .if2 .left)) _
-    (found-right (c .before .before .before .before .before .before .before .before .before .before .before .before .before .before .before .before .args .n) (c .before .before .before .before .before .before .before .before .before .before .before .before .before .before .before .before .args .frozen) (c .before .before .before .before .before .before .before .before .before .before .before .before .before .before .before .before .args .folding) (c .before .before .before .before .before .before .before .before .before .before .before .before .before .before .before .before .args .allowance) (c .before .before .before .before .before .before .before .before .before .before .before .before .before .before .before .before .args .levels .now) (c .before .before .before .walk .result) ends (c .before .before .if2 .left) (given .small) _ _ (c .before .gather .ensures) (c .map .ensures))
+    let w = c .before .before .before .before .before .before in
+    let given = begun w .args in
+    let on = within (c .before .before .before .before) in
+    answer-found _ _ _ _ _ (candidates w)
+    (enough (given .n) (given .frozen) (given .folding) (given .allowance) (given .levels .now) (w .walk .result) (ends w) on) _
+    (found-right (given .n) (given .frozen) (given .folding) (given .allowance) (given .levels .now) (w .walk .result) (ends w) on (begun w .pre .small)
+    _ _ (c .before .gather .ensures) (c .map .ensures))
 
 pub search-spec : {M : Type 1} → statement M
 search-spec =
@@ -122,8 +169,12 @@ search-spec =
     returns
     rows-requires
     covered-requires
+    bytes-requires
     walk-requires
+    used-up-requires
     returns-2
+    cast-distance
+    cast-visits
     gather-requires
     map-requires
     returns-3)

@@ -41,7 +41,7 @@ start-requires c κs = search needs
 node-requires : tie.Need-node-requires
 node-requires c κs =
     let given = c .before .pre in
-    record { seated = given .0; rows = given .1; begun = begin (given .0) (given .1); running = c .start .ensures .2 }
+    record { seated = given .0; rows = given .1; begun = begin (given .0) (given .1); mapped = given .2; running = omega (arith, c .start .ensures .1) }
 
 returns : tie.Need-returns
 returns c =
@@ -49,7 +49,7 @@ returns c =
     c .node .ensures
     ∙ ap₂ (λ (w : ℕ) (o : Option (State keepBest)). under (c .before .before .args .rows .now) (c .before .before .args .tree) (c .before .before .args .left) 0 w o)
     (unseat-zero (c .before .before .args .tree .n) (c .before .before .args .tree .folding))
-    (running-state (c .before .start .result) (begun .2) ∙ (λ i. some (record { kept = begun .0 i; visits = begun .1 i })))
+    (running-state (c .before .before .args .tree .allowance) (c .before .start .result) (omega (arith, begun .1)) ∙ (λ i. some (record { kept = begun .0 i; visits = begun .1 i })))
 
 pub walk-spec : {M : Type 1} → statement M
 walk-spec = tie.close (tie.spec start-requires node-requires returns)
