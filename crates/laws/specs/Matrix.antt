@@ -2,13 +2,13 @@
 use Prim.Native.Nat.{ℕ, zero, suc, _+_, _*_, _/_, _%_, _^_, _≤_, _<_}
 use mathlib.Core.Path.{_≡_, refl, sym, ap, ap₂, _∙_}
 use mathlib.Core.Bool.{Bool, true, false, _&&_, cond}
-use native.Mathlib.Nat.{add-mod, zero-add, two-pow-succ, le-dest, mod-lt, lt-of-lt-of-le, div-eq-of-lt, mod-eq-of-lt}
+use native.Mathlib.Nat.{add-mod, zero-add, add-zero, mul-lt-mul-of-pos-right, two-pow-succ, le-dest, mod-lt, lt-of-lt-of-le, div-eq-of-lt, mod-eq-of-lt}
 use native.Mathlib.Numerals.{one-add}
 use native.Mathlib.Decide.{decLt, le-ind}
 use native.Mathlib.Omega.{arith}
 use lib.Arith.{lt-one}
-use lib.Pow.{pow-pos, pow-mono, shr-lt, high, low, split}
-use lib.Bits.{bitXor, xor-zero-r, xor-self}
+use lib.Pow.{pow-pos, pow-mono, pow-add, shr-lt, high, low, split}
+use lib.Bits.{bitXor, xor-zero-l, xor-zero-r, xor-self}
 use Rattle.rules.specs.Below.{sumBelow}
 use Rattle.rules.specs.Word.{bit, covers, codeBit, codeword, matrixF, kronecker}
 use Rattle.laws.specs.Sums.{sum-cong, sum-zero, sum-add, sum-split, sum-parity}
@@ -174,6 +174,13 @@ codeword-longer n m d l h = le-ind (λ (k : ℕ). codeword k d ≡ codeword n d)
   where
     step : (k : ℕ) → d < 2 ^ (2 ^ k) → codeword (suc k) d ≡ codeword k d
     step k small = codeword-halves k d ∙ rw (div-eq-of-lt small, mod-eq-of-lt small, codeword-zero k, xor-zero-r d) (omega arith)
+
+-- a short word moved into the upper half has its codeword in both halves
+pub codeword-moved : (n m d : ℕ) → n < m → d < 2 ^ (2 ^ n) → codeword m (d * 2 ^ (2 ^ n)) ≡ codeword m d + codeword m d * 2 ^ (2 ^ n)
+codeword-moved n m d l h =
+    codeword-longer (suc n) m (d * 2 ^ (2 ^ n)) l (rw (two-pow-succ n, pow-add 2 (2 ^ n) (2 ^ n)) (mul-lt-mul-of-pos-right h (pow-pos (2 ^ n))))
+    ∙ ap (codeword (suc n)) (sym (add-zero (d * 2 ^ (2 ^ n)))) ∙ codeword-halves n (d * 2 ^ (2 ^ n) + 0)
+    ∙ rw (high d (2 ^ n) (pow-pos (2 ^ n)), low d (2 ^ n) (pow-pos (2 ^ n)), xor-zero-l d, codeword-longer n m d (omega arith) h) (omega arith)
 
 F-covers : (a b : ℕ) → a < 2 → b < 2 → matrixF a b ≡ cond (covers a b) 1 0
 F-covers zero zero ha hb = refl

@@ -8,6 +8,7 @@ ghost use Rattle.rules.specs.Refusals.{largest};
 ghost use Rattle.laws.specs.Seats as laws;
 ghost use Rattle.laws.specs.SeatWords.{seat, unseat};
 ghost use Rattle.word.specs.Words.{wordOf};
+ghost use Rattle.tree.specs.Costs.{GroupSize};
 ghost use Rattle.tree.specs.Seating.{AtMost, Widens, WidensBy, Seated, Covered};
 use word::Word;
 
@@ -88,14 +89,21 @@ pub(crate) fn unseated(index: &[usize; 64], n: u32, folding: u32, w: Word) -> Wo
 }
 
 // For each group, a one at the first seat of each group that it covers.
+// A group covers those of the group without its highest one bit, and the same that many groups further up.
 pub(crate) fn covered(groups: usize, size: usize) -> [Word; 64]
-    requires { ⌜ (0 < size) × (groups * size ≤ 64) ⌝ }
+    requires { ⌜ GroupSize size × (groups * size ≤ 64) ⌝ }
     ensures { λ r. ⌜ Covered r groups size ⌝ }
 {
     let mut r = [0u64; 64];
-    let mut k = 0;
+    r[0] = 1;
+    let mut highest = 1;
+    let mut k = 1;
     while k < groups {
-        r[k] = word::matrix::map(word::put(0, k * size));
+        if k == highest * 2 {
+            highest = k;
+        }
+        let rest = r[k - highest];
+        r[k] = rest + (rest << (highest * size));
         k += 1;
     }
     r

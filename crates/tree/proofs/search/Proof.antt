@@ -66,7 +66,7 @@ covered-requires : tie.Need-covered-requires
 covered-requires c κs =
     let given = c .before .before .before .before .before .before .before .before .pre in
     let sized = size-is _ _ (given .few) (c .before .before .before .before .before .before .before .folding-size .ensures) in
-    (rw sized (pow-pos _), omega (arith, all-slots given (c .before .before .before .before .before .before .seats .ensures) _ _ sized refl, pow-mono {j = 6} (given .small)))
+    ((_, given .few, sized), omega (arith, all-slots given (c .before .before .before .before .before .before .seats .ensures) _ _ sized refl, pow-mono {j = 6} (given .small)))
 
 bytes-requires : tie.Need-bytes-requires
 bytes-requires c κs = search needs

@@ -1,51 +1,67 @@
--- `tree::seat::covered` meets its contract. Invariant: the groups below k are done.
+-- `tree::seat::covered` meets its contract. Invariant: the groups below k are done, and highest is a power of two near k.
 use Prim.Native.Nat.{ℕ, _+_, _-_, _*_, _^_, _≤_, _<_}
-use mathlib.Core.Path.{_≡_, refl, ap, _∙_}
-use native.Mathlib.Nat.{mul-le-mul-right, mul-le-mul-left, suc-mul, mul-one}
-use mathlib.Core.List.{List}
-use native.Mathlib.Decide.{ℕ-discrete}
+use mathlib.Core.Path.{_≡_, refl, _∙_}
+use mathlib.Core.Logic.{⊎-elim}
 use native.Mathlib.Omega.{arith}
-use lib.Bits.{or-zero-l}
-use lib.ListN.{length, set, getD, length-set}
-use lib.Seq.{getD-set-same, getD-set-other}
+use lib.ListN.{getD}
 use borrow.Author.Needs.{needs}
-use borrow.Author.Tests.{lt-ltb}
 use Rattle.rules.specs.Word.{codeword}
-use Rattle.word.specs.Words.{withOne}
-use Rattle.tree.specs.Seating.{Covered}
+use Rattle.laws.specs.Matrix.{codeword-lt}
+use Rattle.tree.proofs.Covering.{Covering, Highest, covering-first, highest-itself, highest-still, some-highest, few-groups, moves, moved-fits, covering-next}
 use Rattle.tree.proofs.seat.covered.Statement.{statement}
 use Rattle.tree.proofs.seat.covered.Tie as tie
 
 abbrev Inv-loop : tie.InvT-loop
-Inv-loop groups size r₀ k₀ r k = (k ≤ groups) × (length r ≡ 64) × Covered r k size
+Inv-loop groups size r₀ highest₀ k₀ r highest k = Covering size r highest k
 
 abbrev μ-loop : tie.MeasureT-loop
-μ-loop groups size r₀ k₀ r k = groups - k
-
--- the first seat of a group is a seat, and so there are no more groups than seats
-first-seat : (groups size k : ℕ) → (0 < size) × (groups * size ≤ 64) → k < groups → k * size < 64
-first-seat groups size k given h = omega (arith, mul-le-mul-right size h, suc-mul k size, given .0, given .1)
-
-few-groups : (groups size : ℕ) → (0 < size) × (groups * size ≤ 64) → groups ≤ 64
-few-groups groups size given = omega (arith, mul-le-mul-left groups (given .0), mul-one groups, given .1)
-
-loop-holds : tie.Need-loop-holds Inv-loop μ-loop
-loop-holds c = (omega arith, refl, λ k h. absurd (omega arith))
-
-mul-put : tie.Need-mul-put Inv-loop μ-loop
-mul-put c = omega (arith, first-seat _ _ _ (c .before .before .pre) (c .loop-test .taken))
-
-put-requires : tie.Need-put-requires Inv-loop μ-loop
-put-requires c κs = search needs
-
-map-requires : tie.Need-map-requires Inv-loop μ-loop
-map-requires c κs = search needs
-
-mul-r : tie.Need-mul-r Inv-loop μ-loop
-mul-r c = omega (arith, few-groups _ _ (c .before .before .before .before .pre))
+μ-loop groups size r₀ highest₀ k₀ r highest k = groups - k
 
 array-write-r : tie.Need-array-write-r Inv-loop μ-loop
-array-write-r c = omega (arith, few-groups _ _ (c .before .before .before .before .pre))
+array-write-r c = search needs
+
+loop-holds : tie.Need-loop-holds Inv-loop μ-loop
+loop-holds c = covering-first (c .args .size) _ refl refl
+
+mul-if1 : tie.Need-mul-if1 Inv-loop μ-loop
+mul-if1 c = omega (arith, few-groups _ _ (c .before .before .pre), c .before .loop .inv .above)
+
+-- after the test: the highest one bit of k, and what the rest of it covers
+highest-at : (c : tie.After-row-known Inv-loop μ-loop) → Highest (c .before .if1 .highest) (c .before .before .before .loop .k)
+highest-at c =
+    let inv = c .before .before .before .loop .inv in
+    ⊎-elim (λ w. rw (w .1) (highest-itself inv (w .0 .taken))) (λ w. rw (w .1) (highest-still inv (w .0 .left))) (c .before .if1 .came)
+
+-- the rest of the group is done
+rest-at : (c : tie.After-row-known Inv-loop μ-loop)
+    → getD (c .before .before .before .loop .r) (c .before .before .before .loop .k - c .before .if1 .highest) 0
+    ≡ codeword 6 (2 ^ ((c .before .before .before .loop .k - c .before .if1 .highest) * c .before .before .before .before .args .size))
+rest-at c =
+    c .before .before .before .loop .inv .done _ (omega (arith, highest-at c .above, some-highest (highest-at c)))
+
+sub-rest : tie.Need-sub-rest Inv-loop μ-loop
+sub-rest c = highest-at c .above
+
+mul-rest : tie.Need-mul-rest Inv-loop μ-loop
+mul-rest c = omega (arith, few-groups _ _ (c .before .before .before .before .pre))
+
+array-read-rest : tie.Need-array-read-rest Inv-loop μ-loop
+array-read-rest c = omega (arith, few-groups _ _ (c .before .before .before .before .pre), c .before .before .loop-test .taken)
+
+mul-r : tie.Need-mul-r Inv-loop μ-loop
+mul-r c = omega (arith, moves _ _ (c .before .before .before .before .pre) (highest-at c) (c .before .before .loop-test .taken))
+
+shl-r : tie.Need-shl-r Inv-loop μ-loop
+shl-r c = moves _ _ (c .before .before .before .before .pre) (highest-at c) (c .before .before .loop-test .taken)
+
+add-r : tie.Need-add-r Inv-loop μ-loop
+add-r c = record { fits = rw (moved-fits _ _ (c .before .before .before .before .pre) (highest-at c) (c .before .before .loop-test .taken) _ (rest-at c)) (codeword-lt 6 _) }
+
+mul-r-2 : tie.Need-mul-r-2 Inv-loop μ-loop
+mul-r-2 c = omega (arith, few-groups _ _ (c .before .before .before .before .pre), c .before .before .loop-test .taken)
+
+array-write-r-2 : tie.Need-array-write-r-2 Inv-loop μ-loop
+array-write-r-2 c = omega (arith, few-groups _ _ (c .before .before .before .before .pre), c .before .before .loop-test .taken)
 
 add-k : tie.Need-add-k Inv-loop μ-loop
 add-k c = omega arith
@@ -53,33 +69,14 @@ add-k c = omega arith
 loop-less : tie.Need-loop-less Inv-loop μ-loop
 loop-less c = omega arith
 
--- a single one put into the word 0
-lone : (i : ℕ) → i < 64 → withOne 0 i ≡ 2 ^ i
-lone i h = rw (lt-ltb i 64 h) (or-zero-l (2 ^ i))
-
--- one group more
-next : (r : List ℕ) (k size v : ℕ) → k < length r → v ≡ codeword 6 (2 ^ (k * size)) → Covered r k size → Covered (set r k v) (k + 1) size
-next r k size v inside e before j h = go (ℕ-discrete j k)
-  where
-    go : Dec (j ≡ k) → getD (set r k v) j 0 ≡ codeword 6 (2 ^ (j * size))
-    go (yes same) = rw same (getD-set-same r k v 0 inside ∙ e)
-    go (no other) = getD-set-other r k j v 0 other ∙ before j (omega arith)
-
 loop-again : tie.Need-loop-again Inv-loop μ-loop
 loop-again c =
-    let given = c .before .before .before .before .pre in
     let inv = c .before .before .before .loop .inv in
-    let one = c .before .put .ensures in
-    let inside : c .before .before .before .loop .k < length (c .before .before .before .loop .r) = omega (arith, inv .1, few-groups _ _ given) in (
-      omega arith,
-      length-set (c .before .before .before .loop .r) _ _ ∙ inv .1,
-      next (c .before .before .before .loop .r) _ _ _ inside (c .map .ensures ∙ ap (codeword 6) (one ∙ lone _ (first-seat _ _ _ given (c .before .before .loop-test .taken)))) (inv .2),
-    )
+    covering-next _ _ (c .before .before .before .before .pre) (highest-at c) (c .before .before .loop-test .taken) (c .before .before .before .loop .r) _ (inv .long) (inv .done)
+    (moved-fits _ _ (c .before .before .before .before .pre) (highest-at c) (c .before .before .loop-test .taken) _ (rest-at c))
 
 returns : tie.Need-returns Inv-loop μ-loop
-returns c =
-    let last : c .before .loop .k ≡ c .before .before .args .groups = omega arith in
-    rw last at (c .before .loop .inv .2)
+returns c k h = c .before .loop .inv .done k (omega arith)
 
 pub covered-spec : {M : Type 1} → statement M
 covered-spec =
@@ -87,12 +84,17 @@ covered-spec =
     (tie.spec
     Inv-loop
     μ-loop
-    loop-holds
-    mul-put
-    put-requires
-    map-requires
-    mul-r
     array-write-r
+    loop-holds
+    mul-if1
+    sub-rest
+    mul-rest
+    array-read-rest
+    mul-r
+    shl-r
+    add-r
+    mul-r-2
+    array-write-r-2
     add-k
     loop-less
     loop-again
