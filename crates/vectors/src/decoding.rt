@@ -4,24 +4,8 @@ use code::Code;
 use tree::Answer;
 use word::Word;
 
-// A level of a list, the first without a comma.
-fn item(i: usize, level: i32) {
-    if 0 < i {
-        printing::say(b",");
-    }
-    printing::level(level);
-}
-
-fn levels_of(levels: &[i32]) {
-    printing::say(b" levels=");
-    let mut i = 0;
-    while i < levels.len() {
-        item(i, levels[i]);
-        i += 1;
-    }
-}
-
-fn answer(answer: Answer) {
+// The finished decoding, or why there is none.
+pub(crate) fn answer(answer: Answer) {
     match answer {
         Answer::Found(found) => {
             printing::number(b" -> message=", found.message);
@@ -38,7 +22,7 @@ fn case(n: u32, frozen: Word, folding: u32, allowance: u32, levels: &[i32]) {
     text::call(b"decode", n, frozen);
     printing::hex(b" folding=0x", folding as u64);
     printing::number(b" allowance=", allowance as u64);
-    levels_of(levels);
+    text::levels(levels);
     answer(tree::decode(n, levels, frozen, folding, allowance));
     printing::end();
 }
