@@ -76,12 +76,6 @@ module _ (K : Keeping) (a : ℕ) (down : ℕ → ℕ → Option (State K) → Op
   visit-down c cs s h t = rw (lt-leb a (s .visits) h, t)
 
 module _ (K : Keeping) (a : ℕ) (candidatesOf : ℕ → ℕ → List Candidate) where
-  -- one step: a walk that was stopped stays so
-  pub walk-stopped : (k p d : ℕ) → walkIn K a candidatesOf k p d none ≡ none
-  unfolding walkIn
-  walk-stopped zero p d = refl
-  walk-stopped (suc k) p d = visit-stopped K a (walkIn K a candidatesOf k) p d (candidatesOf k d)
-
   -- one step: the last level keeps the word
   pub walk-last : (p d : ℕ) (s : State K)
       → walkIn K a candidatesOf zero p d (some s) ≡ some (record { kept = K .keeps p d (s .kept); visits = s .visits })

@@ -1,5 +1,5 @@
 -- Laws of `bit` by index: numbers with equal bits are equal, and what each operation does to the bits.
-use Prim.Native.Nat.{ℕ, zero, suc, _+_, _*_, _/_, _%_, _^_, _≤_, _<_, min, max}
+use Prim.Native.Nat.{ℕ, zero, suc, _+_, _*_, _/_, _%_, _^_, _≤_, _<_, min}
 use mathlib.Core.Path.{_≡_, refl, sym, ap, _∙_}
 use mathlib.Core.Logic.{_≢_}
 use mathlib.Core.Bool.{true, _&&_}
@@ -8,7 +8,7 @@ use native.Mathlib.Numerals.{one-add}
 use native.Mathlib.Decide.{ℕ-discrete, decLt}
 use native.Mathlib.Omega.{arith}
 use lib.Pow.{pow-pos, pow-mono, pow-lt, shr-shr, field, mod-mod-pow, high, low}
-use lib.Bits.{bitAnd, bitOr, bitXor, and-shr, or-shr, xor-shr, and-step, or-step, xor-add-and, xor-disjoint, and-self, and-le-r, and-lt, and-block}
+use lib.Bits.{bitAnd, bitXor, and-shr, xor-shr, and-step, xor-add-and, xor-disjoint, and-self, and-le-r, and-lt, and-block}
 use borrow.Author.Tests.{eqb-true, eq-eqb, ne-eqb}
 use lib.Dec.{eqb}
 use Rattle.rules.specs.Below.{sumBelow}
@@ -89,10 +89,6 @@ xor-twice a b = bit-ext (λ i. bit-xor (bitXor a b) b i ∙ ap (λ (x : ℕ). (x
 pub bit-and : (a b i : ℕ) → bit (bitAnd a b) i ≡ min (bit a i) (bit b i)
 bit-and a b i = rw and-shr (omega (arith, and-step (a / 2 ^ i) (b / 2 ^ i)))
 
--- the bits of an or
-pub bit-or : (a b i : ℕ) → bit (bitOr a b) i ≡ max (bit a i) (bit b i)
-bit-or a b i = rw or-shr (omega (arith, or-step (a / 2 ^ i) (b / 2 ^ i)))
-
 -- the bit of a power of two
 pub bit-pow-same : (k : ℕ) → bit (2 ^ k) k ≡ 1
 bit-pow-same k = rw (div-self {n = 2 ^ k} (pow-pos k))
@@ -134,11 +130,6 @@ word-bit (suc m) b h i l = go (ℕ-discrete i m) (word-bit m b (λ j k. h j (ome
     go (yes e) below = rw (e, add-comm rest (b m * 2 ^ m), high (b m) m small) (mod-eq-of-lt (h m (omega arith)))
     go (no n) below = rw (add-comm rest (b m * 2 ^ m)) (bit-low (b m) m small i (omega arith) ∙ below (omega arith))
 
--- a word is the word of its bits
-pub word-self : (m w : ℕ) → w < 2 ^ m → sumBelow m (λ i. bit w i * 2 ^ i) ≡ w
-word-self m w h =
-    bit-ext-below m (word-lt m (bit w) (λ i l. bit-lt-two w i)) h (word-bit m (bit w) (λ i l. bit-lt-two w i))
-
 eqb-block : (k x a y r : ℕ) → y < 2 ^ k → r < 2 ^ k → eqb (x * 2 ^ k + y) (a * 2 ^ k + r) ≡ (eqb x a && eqb y r)
 eqb-block k x a y r hy hr = go (ℕ-discrete x a) (ℕ-discrete y r)
   where
@@ -158,10 +149,6 @@ covers-of i j h = eq-eqb (bitAnd i j) i (bit-ext (λ k. bit-and i j k ∙ omega 
 -- a number covers itself
 pub covers-refl : (i : ℕ) → covers i i ≡ true
 covers-refl i = eq-eqb (bitAnd i i) i (and-self i)
-
--- what covers a number that covers i covers i
-pub covers-trans : (i j k : ℕ) → covers i j ≡ true → covers j k ≡ true → covers i k ≡ true
-covers-trans i j k p q = covers-of i k (λ b. omega (arith, covers-at i j p b, covers-at j k q b))
 
 -- what covers i is not below i
 pub covers-le : (i j : ℕ) → covers i j ≡ true → i ≤ j

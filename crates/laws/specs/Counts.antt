@@ -1,6 +1,6 @@
 -- `ones` as a sum of bits, and how many message bits a mask leaves.
 -- (`count-le` of Places says K ≤ 2 ^ n, and `ones-le` of lib.Count that an index below 2 ^ n has at most n ones.)
-use Prim.Native.Nat.{ℕ, zero, suc, _+_, _-_, _/_, _%_, _^_, _<_}
+use Prim.Native.Nat.{ℕ, zero, suc, _+_, _/_, _%_, _^_, _<_}
 use mathlib.Core.Path.{_≡_, refl, ap, _∙_}
 use mathlib.Core.Bool.{cond}
 use native.Mathlib.Nat.{div-one, mul-one, mod-lt, two-pow-succ}
@@ -40,7 +40,3 @@ bits-and-ones n mask =
   where
     one : (i : ℕ) → i < 2 ^ n → cond (unfrozen mask i) 1 0 + bit (mask % 2 ^ (2 ^ n)) i ≡ 1
     one i l = rw (bit-mod mask (2 ^ n) i l) (zero-or-one (bit mask i) (bit-lt-two mask i))
-
--- so K is what the mask leaves
-pub bits-left : (n mask : ℕ) → messageBits n mask ≡ 2 ^ n - ones (mask % 2 ^ (2 ^ n))
-bits-left n mask = omega (arith, bits-and-ones n mask)

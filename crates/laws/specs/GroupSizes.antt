@@ -126,10 +126,6 @@ module _ (n folding : ℕ) (fits : folding < 2 ^ n) where
   pub groupNo-below : (i : ℕ) → i < 2 ^ n → groupNo folding i < groups n folding
   groupNo-below i l = rw heads-groups at (no-lt i l)
 
-  -- each group has its smallest index
-  pub group-smallest : (k : ℕ) → k < groups n folding → (h : ℕ) × (h < 2 ^ n) × (smallest folding h ≡ h) × (groupNo folding h ≡ k)
-  group-smallest k l = head k (rw heads-groups l)
-
   -- each group has 2 ^ k indices
   pub group-length : (k : ℕ) → k < groups n folding → length (group n folding k) ≡ 2 ^ ones folding
   unfolding group

@@ -1,6 +1,6 @@
 -- Laws of `leastBelow`: when there is a least value, what it is; and when a mask has a guard.
 use Prim.Native.Nat.{ℕ, zero, suc, _^_, _≤_, _<_, min}
-use mathlib.Core.Path.{_≡_, refl, sym, ap, _∙_}
+use mathlib.Core.Path.{_≡_, refl, sym, _∙_}
 use mathlib.Core.Bool.{Bool, true, false, cond, true≢false}
 use mathlib.Core.Logic.{_↔_}
 use mathlib.Core.Option.{Option, none, some, Option·none-ne-some}
@@ -70,18 +70,6 @@ module _ (test : ℕ → Bool) (f : ℕ → ℕ) where
       go true none t p q below = here t (cc) (λ i l u. absurd (true≢false (sym u ∙ least-none-at m p i l)))
       go true (some v) t p q below = pick v t (cc) (below v p) (decLe (f m) v)
       go false r t p q below = before (λ u. absurd (true≢false (sym u ∙ t))) (below w (p ∙ q))
-
-  -- and what is such a value is the least
-  pub least-some-of : (m w : ℕ) → LeastAt test f m w → leastBelow m test f ≡ some w
-  least-some-of m w h = go (leastBelow m test f) refl
-    where
-      go : (r : Option ℕ) → leastBelow m test f ≡ r → r ≡ some w
-      go none e = absurd (true≢false (sym (h .passes) ∙ least-none-at m e (h .index) (h .inside)))
-      go (some v) e =
-          let r = least-some-at m v e in
-          let v≤w : v ≤ f (h .index) = r .least (h .index) (h .inside) (h .passes) in
-          let w≤v : w ≤ f (r .index) = h .least (r .index) (r .inside) (r .passes) in
-          ap some (omega (arith, r .value, h .value))
 
 -- a mask has no guard exactly when it leaves no message bit
 pub no-guard : (n mask : ℕ) → (guardOf n mask ≡ none) ↔ (messageBits n mask ≡ 0)

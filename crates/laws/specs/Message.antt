@@ -1,5 +1,5 @@
 -- Messages and information words: `spread` and `gather` bit by bit, one undoes the other, and they keep the order.
-use Prim.Native.Nat.{ℕ, zero, suc, _+_, _*_, _^_, _≤_, _<_}
+use Prim.Native.Nat.{ℕ, zero, suc, _+_, _*_, _^_, _<_}
 use mathlib.Core.Path.{_≡_, refl, sym, ap, _∙_}
 use mathlib.Core.Bool.{Bool, true, false, cond}
 use mathlib.Core.Logic.{_↔_}
@@ -105,10 +105,6 @@ module _ (n mask : ℕ) where
   -- the message bit at the place of an unfrozen index is the word's bit there
   pub gather-bit : (d i : ℕ) → i < 2 ^ n → unfrozen mask i ≡ true → bit (gather n mask d) (place mask i) ≡ bit d i
   gather-bit d i l u = rw (gather-word d) (gathered-bit mask d (2 ^ n) i l u)
-
-  -- and there is no one beyond
-  pub gather-beyond : (d k : ℕ) → messageBits n mask ≤ k → bit (gather n mask d) k ≡ 0
-  gather-beyond d k l = bit-beyond (gather-lt d) l
 
   -- the message of a message's word is that message
   pub gather-spread : (m : ℕ) → m < 2 ^ messageBits n mask → gather n mask (spread n mask m) ≡ m

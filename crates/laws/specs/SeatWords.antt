@@ -6,11 +6,10 @@ use native.Mathlib.Nat.{add-mul, zero-mul, le-refl, le-trans, le-of-lt}
 use native.Mathlib.Omega.{arith}
 use lib.Bits.{bitOr}
 use Rattle.rules.specs.Below.{sumBelow}
-use Rattle.rules.specs.Word.{bit, covers, codeBit, codeword}
+use Rattle.rules.specs.Word.{bit, covers, codeBit}
 use Rattle.laws.specs.Sums.{sum-cong, sum-zero, sum-add}
 use Rattle.laws.specs.Bits.{bit-lt-two, bit-zero, bit-beyond, bit-add, bit-ext-below, word-lt, word-bit}
 use Rattle.laws.specs.BitsMore.{small-of-bits}
-use Rattle.laws.specs.Matrix.{codeword-bit, codeword-lt}
 use Rattle.laws.specs.Placed.{Apart, or-single, placed-at, placed-other, sum-permuted}
 use Rattle.laws.specs.Seats.{seatIndex, seat-below, seat-covers, seat-inj, seat-onto}
 
@@ -97,8 +96,3 @@ module _ (n F : ℕ) (fits : F < 2 ^ n) where
       sym (sum-permuted (2 ^ n) (seatIndex n F) (seat-below n F fits) (apart (2 ^ n) (le-refl _)) (seat-onto n F fits)
       (λ j. cond (covers (seatIndex n F p) j) (bit (unseat n F w) j) 0))
       ∙ sum-cong (2 ^ n) (λ q h. ap₂ (λ (t : Bool) (b : ℕ). cond t b 0) (seat-covers n F fits p q l h) (unseat-bit w q h)))
-
-  -- the matrix map in seat order
-  pub codeword-unseat : (w : ℕ) → codeword n (unseat n F w) ≡ unseat n F (codeword n w)
-  codeword-unseat w = by-seats _ _ (codeword-lt n _) (unseat-lt (codeword n w))
-      (λ p l. codeword-bit n (unseat n F w) (seatIndex n F p) ∙ unseat-code-bit w p l ∙ sym (codeword-bit n w p) ∙ sym (unseat-bit (codeword n w) p l))

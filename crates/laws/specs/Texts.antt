@@ -1,12 +1,13 @@
--- The text of bytes that are cut after whole records: the text of the first part, then that of the second from the next number on.
+-- The text of bytes: none, its first record apart, past the last record number, and cut after whole records: the text of the first
+-- part, then that of the second from the next number on.
 use Prim.Native.Nat.{ℕ, zero, suc, _+_, _-_, _*_, _≤_, _<_, min}
 use mathlib.Core.Path.{_≡_, refl, sym, _∙_, ap}
-use mathlib.Core.List.{List, [], _∷_, _++_, append-assoc, append-nil}
+use mathlib.Core.List.{List, [], _∷_, _++_, append-assoc}
 use native.Mathlib.Nat.{add-zero, sub-zero, zero-sub}
 use native.Mathlib.Decide.{decLe}
 use native.Mathlib.Omega.{arith}
-use lib.ListN.{length, take, drop, length-drop, drop-of-length-le}
-use lib.Seq.{take-append-le, drop-append-le, take-all}
+use lib.ListN.{length, take, drop, length-drop}
+use lib.Seq.{take-append-le, drop-append-le}
 use Rattle.rules.specs.Record.{recordBytes, recordAnswer}
 use Rattle.rules.specs.Text.{line, recordsUpTo, linesFrom, mostRecords, textFrom}
 
@@ -60,15 +61,14 @@ pub text-none : (number : ℕ) → textFrom number [] ≡ []
 unfolding textFrom linesFrom
 text-none number = rw (records-none (mostRecords - number))
 
--- one record, which may be short, has its line
-pub text-one : (number : ℕ) (r : List ℕ) → number < mostRecords → 0 < length r → length r ≤ recordBytes → textFrom number r ≡ line number (recordAnswer r)
+-- the first record's line, then the text of the bytes after it
+pub text-step : (number : ℕ) (bytes : List ℕ) → number < mostRecords → 0 < length bytes
+    → textFrom number bytes ≡ line number (recordAnswer (take recordBytes bytes)) ++ textFrom (suc number) (drop recordBytes bytes)
 unfolding textFrom recordsUpTo linesFrom
-text-one number [] l some short = absurd (omega arith)
-text-one number (x ∷ xs) l some short =
+text-step number [] l some = absurd (omega arith)
+text-step number (x ∷ xs) l some =
     let e : mostRecords - number ≡ suc (mostRecords - suc number) = omega arith in
-    rw
-    (e, take-all recordBytes (x ∷ xs) short, drop-of-length-le (x ∷ xs) short, records-none (mostRecords - suc number))
-    (append-nil (line number (recordAnswer (x ∷ xs))))
+    rw e
 
 -- any cutting of bytes after whole records gives one text
 pub text-append : (number whole : ℕ) (a b : List ℕ) → length a ≡ whole * recordBytes

@@ -3,7 +3,6 @@ ghost use mathlib.Core.Path.{_≡_};
 ghost use Prim.Native.Nat.{_*_, _≤_, _<_};
 use crate::compare;
 use crate::levels;
-use crate::text;
 
 // How many cases were compared, and how many of them differ.
 pub(crate) struct Tally {
@@ -23,11 +22,11 @@ fn mask(n: u32, number: u64) -> u64
 
 // The line of a folding.
 fn say_folding(n: u32, folding: u32, tally: Tally) {
-    text::number(b"n=", n as u64);
-    text::number(b" folding=", folding as u64);
-    text::number(b" compared=", tally.compared);
-    text::number(b" different=", tally.different);
-    text::end();
+    printing::number(b"n=", n as u64);
+    printing::number(b" folding=", folding as u64);
+    printing::number(b" compared=", tally.compared);
+    printing::number(b" different=", tally.different);
+    printing::end();
 }
 
 // Every mask and block under one folding, all of them compared.

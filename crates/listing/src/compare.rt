@@ -5,7 +5,6 @@ use crate::least;
 use crate::least::Least;
 use crate::levels;
 use crate::rule;
-use crate::text;
 use tree::Answer;
 use tree::Decoded;
 
@@ -46,11 +45,11 @@ pub(crate) fn slots(n: u32) -> usize
 
 // The line of a case that differs.
 fn say_case(n: u32, folding: u32, frozen: u64, block: u64) {
-    text::number(b"differs: n=", n as u64);
-    text::number(b" folding=", folding as u64);
-    text::hex(b" mask=0x", frozen);
-    text::number(b" block=", block);
-    text::end();
+    printing::number(b"differs: n=", n as u64);
+    printing::number(b" folding=", folding as u64);
+    printing::hex(b" mask=0x", frozen);
+    printing::number(b" block=", block);
+    printing::end();
 }
 
 // 0 where decode agrees with the listing on a block; elsewhere 1, and the case's line.

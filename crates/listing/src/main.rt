@@ -5,7 +5,6 @@ mod compare;
 mod least;
 mod levels;
 mod rule;
-mod text;
 
 // Every mask at n = 1, 2, 3: 4, 16 and 256 of them. At n = 4 there are 32 sampled masks.
 fn main() {
@@ -13,13 +12,13 @@ fn main() {
     let two = cases::size(2, 4, 16);
     let three = cases::size(3, 8, 256);
     let four = cases::size(4, 16, 32);
-    text::number(
+    printing::number(
         b"total compared=",
         one.compared + two.compared + three.compared + four.compared,
     );
-    text::number(
+    printing::number(
         b" different=",
         one.different + two.different + three.different + four.different,
     );
-    text::end();
+    printing::end();
 }

@@ -1,15 +1,15 @@
 -- The lines of a piece in turn: before the first record, one record more, and where the text is whole.
-use Prim.Native.Nat.{ℕ, suc, _+_, _-_, _*_, _≤_, _<_, min}
+use Prim.Native.Nat.{ℕ, _+_, _-_, _*_, _≤_, _<_, min}
 use mathlib.Core.Path.{_≡_, refl, sym, _∙_, ap}
-use mathlib.Core.List.{List, [], _∷_, _++_, append-assoc, append-nil}
+use mathlib.Core.List.{List, [], _++_, append-assoc, append-nil}
 use native.Mathlib.Decide.{decLe}
 use native.Mathlib.Numerals.{add-one}
 use native.Mathlib.Omega.{arith}
 use lib.ListN.{length, take, drop, length-drop, drop-of-length-le}
 use lib.Seq.{sets, drop-drop, take-all}
 use Rattle.rules.specs.Record.{recordBytes, recordAnswer}
-use Rattle.rules.specs.Text.{line, mostRecords, recordsUpTo, linesFrom, textFrom}
-use Rattle.laws.specs.Texts.{text-none, text-stops}
+use Rattle.rules.specs.Text.{line, mostRecords, textFrom}
+use Rattle.laws.specs.Texts.{text-none, text-step, text-stops}
 use Rattle.record.specs.Lines.{Put, Within, longest}
 use Rattle.record.specs.Pieces.{roomFor, Piece}
 use Rattle.record.specs.declared.piece.Written.the-variants.{Lines}
@@ -38,15 +38,6 @@ through-none bytes number before =
       room = omega arith;
       fits = omega arith;
     }
-
--- the first record's line, then the text of the bytes after it
-text-step : (number : ℕ) (bytes : List ℕ) → number < mostRecords → 0 < length bytes
-    → textFrom number bytes ≡ line number (recordAnswer (take recordBytes bytes)) ++ textFrom (suc number) (drop recordBytes bytes)
-unfolding textFrom recordsUpTo linesFrom
-text-step number [] l some = absurd (omega arith)
-text-step number (x ∷ xs) l some =
-    let e : mostRecords - number ≡ suc (mostRecords - suc number) = omega arith in
-    rw e
 
 -- where the record that begins at a place ends
 next-drop : (bytes : List ℕ) (start : ℕ) → drop (min (start + recordBytes) (length bytes)) bytes ≡ drop recordBytes (drop start bytes)

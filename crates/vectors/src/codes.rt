@@ -9,19 +9,19 @@ fn new_case(n: u32, mask: Word) {
     text::call(b"new", n, mask);
     match Code::new(n, mask) {
         Made::Code(c) => text::call(b" -> code", c.n, c.frozen),
-        Made::Refused(r) => text::refused(r),
+        Made::Refused(r) => printing::refused(r),
     }
-    text::end();
+    printing::end();
 }
 
 fn guard_of(code: Code) {
     text::call(b"guard", code.n, code.frozen);
     match code.guard() {
-        Guard::Guard(figure) => text::number(b" -> ", figure as u64),
-        Guard::NoGuard => text::say(b" -> none"),
-        Guard::Refused(r) => text::refused(r),
+        Guard::Guard(figure) => printing::number(b" -> ", figure as u64),
+        Guard::NoGuard => printing::say(b" -> none"),
+        Guard::Refused(r) => printing::refused(r),
     }
-    text::end();
+    printing::end();
 }
 
 fn guard_case(n: u32, frozen: Word) {

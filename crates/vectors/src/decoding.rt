@@ -4,43 +4,27 @@ use code::Code;
 use tree::Answer;
 use word::Word;
 
-// A level of a list, the first without a comma.
-fn item(i: usize, level: i32) {
-    if 0 < i {
-        text::say(b",");
-    }
-    text::level(level);
-}
-
-fn levels_of(levels: &[i32]) {
-    text::say(b" levels=");
-    let mut i = 0;
-    while i < levels.len() {
-        item(i, levels[i]);
-        i += 1;
-    }
-}
-
-fn answer(answer: Answer) {
+// The finished decoding, or why there is none.
+pub(crate) fn answer(answer: Answer) {
     match answer {
         Answer::Found(found) => {
-            text::number(b" -> message=", found.message);
-            text::hex(b" d=0x", found.d);
-            text::hex(b" x=0x", found.x);
-            text::number(b" distance=", found.distance as u64);
-            text::number(b" visits=", found.visits as u64);
+            printing::number(b" -> message=", found.message);
+            printing::hex(b" d=0x", found.d);
+            printing::hex(b" x=0x", found.x);
+            printing::number(b" distance=", found.distance as u64);
+            printing::number(b" visits=", found.visits as u64);
         }
-        Answer::Refused(r) => text::refused(r),
+        Answer::Refused(r) => printing::refused(r),
     }
 }
 
 fn case(n: u32, frozen: Word, folding: u32, allowance: u32, levels: &[i32]) {
     text::call(b"decode", n, frozen);
-    text::hex(b" folding=0x", folding as u64);
-    text::number(b" allowance=", allowance as u64);
-    levels_of(levels);
+    printing::hex(b" folding=0x", folding as u64);
+    printing::number(b" allowance=", allowance as u64);
+    text::levels(levels);
     answer(tree::decode(n, levels, frozen, folding, allowance));
-    text::end();
+    printing::end();
 }
 
 // Levels of n = 3: those of message 1 under mask 0x05, but for slot 0.

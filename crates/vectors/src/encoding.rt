@@ -7,32 +7,32 @@ use word::Word;
 fn answer(answer: Encoded) {
     match answer {
         Encoded::Words(d, x) => {
-            text::hex(b" -> d=0x", d);
-            text::hex(b" x=0x", x);
+            printing::hex(b" -> d=0x", d);
+            printing::hex(b" x=0x", x);
         }
-        Encoded::Refused(r) => text::refused(r),
+        Encoded::Refused(r) => printing::refused(r),
     }
 }
 
 fn encode_case(n: u32, frozen: Word, message: Word) {
     text::call(b"encode", n, frozen);
-    text::number(b" message=", message);
+    printing::number(b" message=", message);
     answer(code::encode(Code { n, frozen }, message));
-    text::end();
+    printing::end();
 }
 
 // A level of the slice after the call: + for 256, - for -256, . where the call wrote nothing.
 fn level(level: i32) {
     match level {
-        256 => text::say(b"+"),
-        -256 => text::say(b"-"),
-        7 => text::say(b"."),
-        _ => text::say(b"?"),
+        256 => printing::say(b"+"),
+        -256 => printing::say(b"-"),
+        7 => printing::say(b"."),
+        _ => printing::say(b"?"),
     }
 }
 
 fn levels(levels: &[i32]) {
-    text::say(b" levels=");
+    printing::say(b" levels=");
     let mut i = 0;
     while i < levels.len() {
         level(levels[i]);
@@ -42,11 +42,11 @@ fn levels(levels: &[i32]) {
 
 fn levels_in(n: u32, frozen: Word, message: Word, slice: &mut [i32]) {
     text::call(b"encode_levels", n, frozen);
-    text::number(b" message=", message);
-    text::number(b" slots=", slice.len() as u64);
+    printing::number(b" message=", message);
+    printing::number(b" slots=", slice.len() as u64);
     answer(code::levels::encode_levels(Code { n, frozen }, message, slice));
     levels(slice);
-    text::end();
+    printing::end();
 }
 
 // A slice of that many slots, up to 65, each at 7 before the call.

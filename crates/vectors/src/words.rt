@@ -11,23 +11,27 @@ const FAR: usize = 18446744073709551615;
 
 // A word and an index given.
 fn at(name: &[u8], w: Word, i: usize) {
-    text::hex(name, w);
-    text::number(b" i=", i as u64);
+    printing::hex(name, w);
+    printing::number(b" i=", i as u64);
 }
 
 fn came(w: Word) {
-    text::hex(b" -> 0x", w);
-    text::end();
+    printing::hex(b" -> 0x", w);
+    printing::end();
 }
 
 fn counted(count: u64) {
-    text::number(b" -> ", count);
-    text::end();
+    printing::number(b" -> ", count);
+    printing::end();
 }
 
 fn said(yes: bool) {
-    text::flag(yes);
-    text::end();
+    if yes {
+        printing::say(b" -> yes");
+    } else {
+        printing::say(b" -> no");
+    }
+    printing::end();
 }
 
 fn bit(w: Word, i: usize) {
@@ -46,46 +50,46 @@ fn reaches(w: Word, i: usize) {
 }
 
 fn xor(a: Word, b: Word) {
-    text::hex(b"xor a=0x", a);
-    text::hex(b" b=0x", b);
+    printing::hex(b"xor a=0x", a);
+    printing::hex(b" b=0x", b);
     came(word::xor(a, b));
 }
 
 fn less(a: Word, b: Word) {
-    text::hex(b"less a=0x", a);
-    text::hex(b" b=0x", b);
+    printing::hex(b"less a=0x", a);
+    printing::hex(b" b=0x", b);
     said(word::less(a, b));
 }
 
 fn map(w: Word) {
-    text::hex(b"map w=0x", w);
+    printing::hex(b"map w=0x", w);
     came(word::matrix::map(w));
 }
 
 fn map_byte(b: u8) {
-    text::hex(b"map_byte b=0x", b as u64);
+    printing::hex(b"map_byte b=0x", b as u64);
     came(word::matrix::map_byte(b) as u64);
 }
 
 fn spread(n: u32, frozen: Word, message: Word) {
     text::call(b"spread", n, frozen);
-    text::hex(b" message=0x", message);
+    printing::hex(b" message=0x", message);
     came(word::message::spread(n, frozen, message));
 }
 
 fn gather(n: u32, frozen: Word, d: Word) {
     text::call(b"gather", n, frozen);
-    text::hex(b" d=0x", d);
+    printing::hex(b" d=0x", d);
     came(word::message::gather(n, frozen, d));
 }
 
 fn ones(w: Word) {
-    text::hex(b"ones w=0x", w);
+    printing::hex(b"ones w=0x", w);
     counted(word::count::ones(w) as u64);
 }
 
 fn folding_size(folding: u32) {
-    text::hex(b"folding_size folding=0x", folding as u64);
+    printing::hex(b"folding_size folding=0x", folding as u64);
     counted(word::count::folding_size(folding) as u64);
 }
 
@@ -97,25 +101,25 @@ fn unfrozen(n: u32, frozen: Word) {
 fn fewest_ones(n: u32, frozen: Word) {
     text::call(b"fewest_ones", n, frozen);
     match word::count::fewest_ones(n, frozen) {
-        Fewest::Ones(w) => text::number(b" -> ", w as u64),
-        Fewest::NoIndex => text::say(b" -> none"),
+        Fewest::Ones(w) => printing::number(b" -> ", w as u64),
+        Fewest::NoIndex => printing::say(b" -> none"),
     }
-    text::end();
+    printing::end();
 }
 
 fn slots(n: u32) {
-    text::number(b"slots n=", n as u64);
+    printing::number(b"slots n=", n as u64);
     counted(word::slots(n) as u64);
 }
 
 fn wrong_size(n: u32) {
-    text::number(b"wrong_size n=", n as u64);
+    printing::number(b"wrong_size n=", n as u64);
     said(word::wrong_size(n));
 }
 
 fn block(w: Word, i: usize, size: usize) {
     at(b"block w=0x", w, i);
-    text::number(b" size=", size as u64);
+    printing::number(b" size=", size as u64);
     came(word::block::block(w, i, size) as u64);
 }
 

@@ -1,4 +1,4 @@
--- `samples::sample` meets its contract: with the sign taken off, a NaN's pattern is above the infinity's.
+-- `vectors::samples::sample` meets its contract: with the sign taken off, a NaN's pattern is above the infinity's.
 use Prim.Native.Nat.{_%_}
 use mathlib.Core.Path.{_≡_, refl, sym, subst, _∙_}
 use mathlib.Core.Bool.{Bool, not}
@@ -7,8 +7,8 @@ use lib.Bits.{and-mask}
 use lib.Dec.{T}
 use lib.Ieee.{Float, nan, binary32, isNan, ofBits, div}
 use lib.Ieee.Bits.{nanBits-is, nanBits-above}
-use Rattle.samples.proofs.sample.Statement.{statement}
-use Rattle.samples.proofs.sample.Tie as tie
+use Rattle.vectors.proofs.samples.sample.Statement.{statement}
+use Rattle.vectors.proofs.samples.sample.Tie as tie
 
 the-nan : (x : Float) → T (isNan x) → nan ≡ x
 unfolding isNan

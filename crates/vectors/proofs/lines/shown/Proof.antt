@@ -1,15 +1,15 @@
--- `vectors::decoding::levels_of` is safe and ends.
+-- `vectors::lines::shown` is safe and ends.
 use Prim.Native.Nat.{_≤_, _-_}
 use lib.ListN.{length}
 use borrow.Author.Needs.{needs}
-use Rattle.vectors.proofs.decoding.levels_of.Statement.{statement}
-use Rattle.vectors.proofs.decoding.levels_of.Tie as tie
+use Rattle.vectors.proofs.lines.shown.Statement.{statement}
+use Rattle.vectors.proofs.lines.shown.Tie as tie
 
 abbrev Inv-loop : tie.InvT-loop
-Inv-loop levels i₀ i = i ≤ length levels
+Inv-loop text i₀ i = i ≤ length text
 
 abbrev μ-loop : tie.MeasureT-loop
-μ-loop levels i₀ i = length levels - i
+μ-loop text i₀ i = length text - i
 
 slice-aggregate-say : tie.Need-slice-aggregate-say Inv-loop μ-loop
 slice-aggregate-say c = search needs
@@ -20,14 +20,11 @@ say-requires c κs = search needs
 loop-holds : tie.Need-loop-holds Inv-loop μ-loop
 loop-holds c = search needs
 
-mul-item : tie.Need-mul-item Inv-loop μ-loop
-mul-item c = search needs
+shared-slice-read-byte : tie.Need-shared-slice-read-byte Inv-loop μ-loop
+shared-slice-read-byte c = search needs
 
-shared-slice-copy-out-item : tie.Need-shared-slice-copy-out-item Inv-loop μ-loop
-shared-slice-copy-out-item c = search needs
-
-item-requires : tie.Need-item-requires Inv-loop μ-loop
-item-requires c κs = search needs
+byte-requires : tie.Need-byte-requires Inv-loop μ-loop
+byte-requires c κs = search needs
 
 add-i : tie.Need-add-i Inv-loop μ-loop
 add-i c = search needs
@@ -41,8 +38,8 @@ loop-again c = search needs
 returns : tie.Need-returns Inv-loop μ-loop
 returns c = search needs
 
-pub levels-of-spec : {M : Type 1} → statement M
-levels-of-spec =
+pub shown-spec : {M : Type 1} → statement M
+shown-spec =
     tie.close
     (tie.spec
     Inv-loop
@@ -50,9 +47,8 @@ levels-of-spec =
     slice-aggregate-say
     say-requires
     loop-holds
-    mul-item
-    shared-slice-copy-out-item
-    item-requires
+    shared-slice-read-byte
+    byte-requires
     add-i
     loop-less
     loop-again

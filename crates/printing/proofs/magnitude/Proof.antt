@@ -1,4 +1,4 @@
--- `samples::magnitude` meets its contract.
+-- `printing::magnitude` meets its contract.
 use Prim.Native.Nat.{ℕ, suc, _≤_, _<_}
 use mathlib.Core.Path.{_≡_, refl, ap, _∙_}
 use mathlib.Core.Bool.{true, false, true≢false}
@@ -10,8 +10,8 @@ use lib.Signed.{ltZ}
 use mir.Syntax.{w32, w64}
 use mir.Val.{SFits, ofZ, toZ}
 use mir.ValLaws.{toZ-ofZ}
-use Rattle.samples.proofs.magnitude.Statement.{statement}
-use Rattle.samples.proofs.magnitude.Tie as tie
+use Rattle.printing.proofs.magnitude.Statement.{statement}
+use Rattle.printing.proofs.magnitude.Tie as tie
 
 module _ (z : ℤ) (f : SFits w32 z) where
   wide : SFits w64 z
