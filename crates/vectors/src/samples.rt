@@ -34,6 +34,16 @@ fn rows() {
     case(0x42c80000);
 }
 
+// Twice the end of the range, and its neighbours, on both sides.
+fn far() {
+    case(0x40ffffff);
+    case(0x41000000);
+    case(0x41000001);
+    case(0xc0ffffff);
+    case(0xc1000000);
+    case(0xc1000001);
+}
+
 // Half a level and one and a half, with their neighbours.
 fn near_zero() {
     case(0x3affffff);
@@ -122,6 +132,7 @@ fn not_finite() {
 // Every border of the rule.
 pub(crate) fn level() {
     rows();
+    far();
     near_zero();
     farther();
     ends();

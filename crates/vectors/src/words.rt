@@ -71,6 +71,13 @@ fn map_byte(b: u8) {
     came(word::matrix::map_byte(b) as u64);
 }
 
+// An entry of the table of all bytes.
+fn bytes(b: u8) {
+    let table = word::matrix::bytes();
+    printing::hex(b"bytes b=0x", b as u64);
+    came(table[b as usize] as u64);
+}
+
 fn spread(n: u32, frozen: Word, message: Word) {
     text::call(b"spread", n, frozen);
     printing::hex(b" message=0x", message);
@@ -185,6 +192,10 @@ fn maps() {
     map_byte(0x80);
     map_byte(0xa5);
     map_byte(0xff);
+    bytes(0x0);
+    bytes(0x8);
+    bytes(0xa5);
+    bytes(0xff);
 }
 
 fn messages() {
