@@ -3,10 +3,10 @@ use Prim.Native.Nat.{ℕ, zero, suc, _+_, _*_, _^_, _≤_, _<_, min}
 use mathlib.Core.Path.{_≡_, refl, sym, _∙_}
 use mathlib.Core.Logic.{_≢_}
 use mathlib.Core.Bool.{cond}
-use native.Mathlib.Nat.{zero-mul, one-mul, not-suc-le-zero}
+use native.Mathlib.Nat.{zero-mul, one-mul, add-zero, not-suc-le-zero}
 use native.Mathlib.Decide.{ℕ-discrete}
 use native.Mathlib.Omega.{arith}
-use lib.Bits.{bitOr, or-disjoint}
+use lib.Bits.{bitXor, xor-zero-r, xor-disjoint}
 use lib.Dec.{eqb}
 use borrow.Author.Tests.{eq-eqb, ne-eqb}
 use Rattle.rules.specs.Below.{sumBelow}
@@ -37,9 +37,12 @@ single-add w c a l z = bit-add w (c * 2 ^ a) (λ k. go k (ℕ-discrete k a))
     go k (yes e) = rw (e, z) (omega (arith, bit-lt-two (c * 2 ^ a) a))
     go k (no n) = rw (single-other c a k l n) (omega (arith, bit-lt-two w k))
 
--- a one put by `or` where there was none is added
-pub or-single : (w a : ℕ) → bit w a ≡ 0 → bitOr w (2 ^ a) ≡ w + 2 ^ a
-or-single w a z = or-disjoint w (2 ^ a) (bit-ext (λ k. bit-and w (2 ^ a) k ∙ go k (ℕ-discrete k a) ∙ sym (bit-zero k)))
+-- a bit put by `xor` where there was none is added
+pub xor-single : (w a b : ℕ) → bit w a ≡ 0 → b < 2 → bitXor w (b * 2 ^ a) ≡ w + b * 2 ^ a
+xor-single w a zero z h = rw (zero-mul (2 ^ a), xor-zero-r w) (sym (add-zero w))
+xor-single w a (suc (suc b)) z h = absurd (omega arith)
+xor-single w a (suc zero) z h =
+    rw (one-mul (2 ^ a)) (xor-disjoint w (2 ^ a) (bit-ext (λ k. bit-and w (2 ^ a) k ∙ go k (ℕ-discrete k a) ∙ sym (bit-zero k))))
   where
     go : (k : ℕ) → Dec (k ≡ a) → min (bit w k) (bit (2 ^ a) k) ≡ 0
     go k (yes e) = rw (e, z) (omega arith)

@@ -1,16 +1,16 @@
 -- Words in seat order: bit p of a word in seat order is the bit at the index of seat p, and the matrix map is the same in both.
-use Prim.Native.Nat.{ℕ, _+_, _*_, _%_, _^_, _≤_, _<_}
+use Prim.Native.Nat.{ℕ, suc, _+_, _*_, _%_, _^_, _≤_, _<_}
 use mathlib.Core.Path.{_≡_, sym, ap, ap₂, _∙_}
 use mathlib.Core.Bool.{Bool, cond}
 use native.Mathlib.Nat.{add-mul, zero-mul, le-refl, le-trans, le-of-lt}
 use native.Mathlib.Omega.{arith}
-use lib.Bits.{bitOr}
+use lib.Bits.{bitXor}
 use Rattle.rules.specs.Below.{sumBelow}
 use Rattle.rules.specs.Word.{bit, covers, codeBit}
 use Rattle.laws.specs.Sums.{sum-cong, sum-zero, sum-add}
 use Rattle.laws.specs.Bits.{bit-lt-two, bit-zero, bit-beyond, bit-add, bit-ext-below, word-lt, word-bit}
 use Rattle.laws.specs.BitsMore.{small-of-bits}
-use Rattle.laws.specs.Placed.{Apart, or-single, placed-at, placed-other, sum-permuted}
+use Rattle.laws.specs.Placed.{Apart, xor-single, placed-at, placed-other, sum-permuted}
 use Rattle.laws.specs.Seats.{seatIndex, seat-below, seat-covers, seat-inj, seat-onto}
 
 -- the bits of the seats below m, at their indices
@@ -43,9 +43,10 @@ module _ (n F : ℕ) where
   unfolding seat
   seat-bit w = word-bit (2 ^ n) (λ p. bit w (seatIndex n F p)) (λ p _. bit-lt-two w (seatIndex n F p))
 
-  -- the next bit in seat order, put by `or`, is added
-  pub seat-step-or : (w m : ℕ) → bitOr (seatBelow n F w m) (2 ^ m) ≡ seatBelow n F w m + 2 ^ m
-  seat-step-or w m = or-single (seatBelow n F w m) m (bit-beyond (seat-below-lt w m) (le-refl m))
+  -- the next bit in seat order, put by `xor`
+  pub seat-step : (w m : ℕ) → bitXor (seatBelow n F w m) (bit w (seatIndex n F m) * 2 ^ m) ≡ seatBelow n F w (suc m)
+  unfolding sumBelow
+  seat-step w m = xor-single (seatBelow n F w m) m _ (bit-beyond (seat-below-lt w m) (le-refl m)) (bit-lt-two w (seatIndex n F m))
 
   -- words with no common one are put in place apart
   pub unseat-add : (v w : ℕ) → ((k : ℕ) → bit v k + bit w k ≤ 1) → unseat n F (v + w) ≡ unseat n F v + unseat n F w
@@ -72,11 +73,12 @@ module _ (n F : ℕ) (fits : F < 2 ^ n) where
   unseat-lt w = small-of-bits (2 ^ n) _ (λ i g. placed-other (seatIndex n F) (bit w) (bit-lt-two w) (2 ^ n) (apart (2 ^ n) (le-refl _)) i
       (λ p l e. omega (arith, seat-below n F fits p l)))
 
-  -- the next seat's bit, put by `or` at its index, is added
-  pub unseat-step-or : (w m : ℕ) → m < 2 ^ n → bitOr (unseatBelow n F w m) (2 ^ seatIndex n F m) ≡ unseatBelow n F w m + 2 ^ seatIndex n F m
-  unseat-step-or w m l = or-single (unseatBelow n F w m) (seatIndex n F m)
+  -- the next seat's bit, put by `xor` at its index
+  pub unseat-step : (w m : ℕ) → m < 2 ^ n → bitXor (unseatBelow n F w m) (bit w m * 2 ^ seatIndex n F m) ≡ unseatBelow n F w (suc m)
+  unfolding sumBelow
+  unseat-step w m l = xor-single (unseatBelow n F w m) (seatIndex n F m) _
       (placed-other (seatIndex n F) (bit w) (bit-lt-two w) m (apart m (le-of-lt l)) (seatIndex n F m)
-      (λ p h e. omega (arith, seat-inj n F fits p m (omega arith) l e)))
+      (λ p h e. omega (arith, seat-inj n F fits p m (omega arith) l e))) (bit-lt-two w m)
 
   -- into seat order after out of it
   pub seat-unseat : (w : ℕ) → w < 2 ^ (2 ^ n) → seat n F (unseat n F w) ≡ w

@@ -3,7 +3,7 @@ ghost use mathlib.Core.Path.{_≡_};
 ghost use Prim.Native.Nat.{ℕ, _+_, _*_, _^_, _≤_, _<_};
 ghost use lib.ListN.{getD, take};
 ghost use Rattle.rules.specs.Below.{countBelow};
-ghost use Rattle.rules.specs.Word.{codeword};
+ghost use Rattle.rules.specs.Word.{bit};
 ghost use Rattle.rules.specs.Refusals.{largest};
 ghost use Rattle.laws.specs.Seats as laws;
 ghost use Rattle.laws.specs.SeatWords.{seat, unseat};
@@ -54,6 +54,14 @@ pub(crate) fn seats(n: u32, folding: u32) -> [usize; 64]
     index
 }
 
+// A bit of a word alone, moved to another index.
+fn moved(w: Word, from: usize, to: usize) -> Word
+    requires { ⌜ (from < 64) × (to < 64) ⌝ }
+    ensures { λ r. ⌜ wordOf r ≡ bit (wordOf w) from * 2 ^ to ⌝ }
+{
+    word::block::above(word::block::block(w, from, 1), to)
+}
+
 // A word with its bits in the order of the seats.
 pub(crate) fn seated(index: &[usize; 64], n: u32, folding: u32, w: Word) -> Word
     requires { ⌜ Seated (now index) n folding ⌝ }
@@ -63,9 +71,7 @@ pub(crate) fn seated(index: &[usize; 64], n: u32, folding: u32, w: Word) -> Word
     let mut r: Word = 0;
     let mut p = 0;
     while p < slots {
-        if word::bit(w, index[p]) == 1 {
-            r = word::put(r, p);
-        }
+        r = word::xor(r, moved(w, index[p], p));
         p += 1;
     }
     r
@@ -80,9 +86,7 @@ pub(crate) fn unseated(index: &[usize; 64], n: u32, folding: u32, w: Word) -> Wo
     let mut r: Word = 0;
     let mut p = 0;
     while p < slots {
-        if word::bit(w, p) == 1 {
-            r = word::put(r, index[p]);
-        }
+        r = word::xor(r, moved(w, p, index[p]));
         p += 1;
     }
     r
