@@ -2,9 +2,10 @@
 use Prim.Native.Nat.{ℕ, suc, _+_, _-_, _*_, _%_, _^_, _≤_, _<_}
 use mathlib.Core.Path.{_≡_, refl, sym, ap, ap₂, _∙_}
 use mathlib.Core.List.{List}
-use native.Mathlib.Nat.{add-mul, zero-mul, two-pow-succ, mul-one, mul-le-mul-left, mul-le-mul-right, mul-lt-mul-of-pos-right, mod-eq-of-lt}
+use native.Mathlib.Nat.{add-comm, add-mul, zero-mul, two-pow-succ, mul-one, mul-le-mul-left, mul-le-mul-right, mul-lt-mul-of-pos-right, mod-eq-of-lt}
 use native.Mathlib.Decide.{decLt, ℕ-discrete}
 use native.Mathlib.Omega.{arith}
+use lib.Bits.{bitXor, xor-comm, xor-shifted}
 use lib.ListN.{length, set, getD, length-set}
 use lib.Pow.{pow-add, pow-lt, pow-mono, pow-pos}
 use lib.Seq.{getD-set-same, getD-set-other}
@@ -78,38 +79,44 @@ module _ (groups size : ℕ) (given : GroupSize size × (groups * size ≤ 64)) 
           given .1,
         )
 
+    abbrev n : ℕ
+    n = is .power .0 + given .0 .0
+
+    power : highest * size ≡ 2 ^ n
+    power = ap₂ (λ (a b : ℕ). a * b) (is .power .1) (given .0 .2) ∙ sym (pow-add 2 (is .power .0) (given .0 .0))
+
+    short : n < 6
+    short = go (decLt n 6)
+      where
+        go : Dec (n < 6) → n < 6
+        go (yes h) = h
+        go (no h) = absurd (omega (arith, power, moves, pow-mono {i = 6} {j = n} (omega arith)))
+
+    rest-lt : 2 ^ ((k - highest) * size) < 2 ^ (2 ^ n)
+    rest-lt = pow-lt (rw (← power) (mul-lt-mul-of-pos-right (omega (arith, is .above, is .below)) some-size))
+
+    -- what the rest covers lies below the highest one bit
+    rest-small : codeword 6 (2 ^ ((k - highest) * size)) < 2 ^ (highest * size)
+    rest-small = rw (codeword-longer n 6 _ (omega (arith, short)) rest-lt, power) (codeword-lt n _)
+
     -- what a group covers, from what the rest of it covers
-    pub moved : (rest : ℕ) → rest ≡ codeword 6 (2 ^ ((k - highest) * size)) → rest + rest * 2 ^ (highest * size) ≡ codeword 6 (2 ^ (k * size))
+    moved : (rest : ℕ) → rest ≡ codeword 6 (2 ^ ((k - highest) * size)) → rest + rest * 2 ^ (highest * size) ≡ codeword 6 (2 ^ (k * size))
     moved rest e =
         let whole : (k - highest) * size + highest * size ≡ k * size =
         sym (add-mul (k - highest) highest size) ∙ ap (λ (m : ℕ). m * size) (omega (arith, is .above))
         in
         ap₂ (λ (a s : ℕ). a + a * 2 ^ s) e power
-        ∙ sym (codeword-moved n 6 (2 ^ ((k - highest) * size)) short (pow-lt (rw (← power) rest-below)))
+        ∙ sym (codeword-moved n 6 (2 ^ ((k - highest) * size)) short rest-lt)
         ∙ ap (codeword 6) (sym (pow-add 2 _ (2 ^ n)) ∙ ap (λ (s : ℕ). 2 ^ ((k - highest) * size + s)) (sym power) ∙ ap (λ (s : ℕ). 2 ^ s) whole)
-      where
-        n : ℕ
-        n = is .power .0 + given .0 .0
 
-        power : highest * size ≡ 2 ^ n
-        power = ap₂ (λ (a b : ℕ). a * b) (is .power .1) (given .0 .2) ∙ sym (pow-add 2 (is .power .0) (given .0 .0))
-
-        short : n < 6
-        short = go (decLt n 6)
-          where
-            go : Dec (n < 6) → n < 6
-            go (yes h) = h
-            go (no h) = absurd (omega (arith, power, moves, pow-mono {i = 6} {j = n} (omega arith)))
-
-        rest-below : (k - highest) * size < highest * size
-        rest-below = mul-lt-mul-of-pos-right (omega (arith, is .above, is .below)) some-size
-
-    -- as the machine adds it
-    pub moved-fits : (rest : ℕ) → rest ≡ codeword 6 (2 ^ ((k - highest) * size)) → rest + rest * 2 ^ (highest * size) % 2 ^ 64 ≡ codeword 6 (2 ^ (k * size))
-    moved-fits rest e =
+    -- as the code adds it: no one bit of the rest lies where it is moved to
+    pub moved-xor : (rest : ℕ) → rest ≡ codeword 6 (2 ^ ((k - highest) * size))
+        → bitXor rest (rest * 2 ^ (highest * size) % 2 ^ 64) ≡ codeword 6 (2 ^ (k * size))
+    moved-xor rest e =
         let all = moved rest e in
-        let small : rest * 2 ^ (highest * size) < 2 ^ 64 = omega (arith, all, codeword-lt 6 (2 ^ (k * size))) in
-        ap (λ (a : ℕ). rest + a) (mod-eq-of-lt small) ∙ all
+        let fits : rest * 2 ^ (highest * size) < 2 ^ 64 = omega (arith, all, codeword-lt 6 (2 ^ (k * size))) in
+        ap (bitXor rest) (mod-eq-of-lt fits) ∙ xor-comm rest (rest * 2 ^ (highest * size))
+        ∙ xor-shifted rest (highest * size) rest (rw e rest-small) ∙ add-comm (rest * 2 ^ (highest * size)) rest ∙ all
 
     -- one group more
     pub covering-next : (r : List ℕ) (v : ℕ) → length r ≡ 64 → Covered r k size → v ≡ codeword 6 (2 ^ (k * size)) → Covering size (set r k v) highest (k + 1)

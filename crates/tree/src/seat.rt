@@ -59,7 +59,7 @@ fn moved(w: Word, from: usize, to: usize) -> Word
     requires { ⌜ (from < 64) × (to < 64) ⌝ }
     ensures { λ r. ⌜ wordOf r ≡ bit (wordOf w) from * 2 ^ to ⌝ }
 {
-    word::block::above(word::block::block(w, from, 1), to)
+    word::block::above(word::block::block(w, from, 1) as u64, to)
 }
 
 // A word with its bits in the order of the seats.
@@ -107,7 +107,7 @@ pub(crate) fn covered(groups: usize, size: usize) -> [Word; 64]
             highest = k;
         }
         let rest = r[k - highest];
-        r[k] = rest + (rest << (highest * size));
+        r[k] = word::xor(rest, word::block::above(rest, highest * size));
         k += 1;
     }
     r

@@ -104,7 +104,7 @@ fn node(
             if farther(s, total) {
                 return s;
             }
-            let next = word::xor(d, word::block::above(filling, at));
+            let next = word::xor(d, word::block::above(filling as u64, at));
             let code = coded(x, covered, k, own);
             s = node(rows, index, covered, bytes, tree, k, total, next, code, s);
             if used_up(s, tree.allowance) {

@@ -39,11 +39,6 @@ fn bit(w: Word, i: usize) {
     counted(word::bit(w, i) as u64);
 }
 
-fn put(w: Word, i: usize) {
-    at(b"put w=0x", w, i);
-    came(word::put(w, i));
-}
-
 fn reaches(w: Word, i: usize) {
     at(b"reaches w=0x", w, i);
     said(word::count::reaches(w, i));
@@ -64,11 +59,6 @@ fn less(a: Word, b: Word) {
 fn map(w: Word) {
     printing::hex(b"map w=0x", w);
     came(word::matrix::map(w));
-}
-
-fn map_byte(b: u8) {
-    printing::hex(b"map_byte b=0x", b as u64);
-    came(word::matrix::map_byte(b) as u64);
 }
 
 // An entry of the table of all bytes.
@@ -130,9 +120,9 @@ fn block(w: Word, i: usize, size: usize) {
     came(word::block::block(w, i, size) as u64);
 }
 
-fn above(b: u8, i: usize) {
-    at(b"above b=0x", b as u64, i);
-    came(word::block::above(b, i));
+fn above(w: Word, i: usize) {
+    at(b"above w=0x", w, i);
+    came(word::block::above(w, i));
 }
 
 fn bits() {
@@ -142,13 +132,6 @@ fn bits() {
     bit(0x8000000000000001, 63);
     bit(ALL, 64);
     bit(ALL, FAR);
-    put(0x0, 0);
-    put(0x0, 63);
-    put(0x0, 64);
-    put(0x1, 0);
-    put(0x5, 1);
-    put(ALL, 63);
-    put(0x5, FAR);
     reaches(0x0, 0);
     reaches(0x1, 0);
     reaches(0x1, 1);
@@ -184,16 +167,12 @@ fn maps() {
     map(TOP);
     map(ALL);
     map(0x123456789abcdef);
-    map_byte(0x0);
-    map_byte(0x1);
-    map_byte(0x2);
-    map_byte(0x8);
-    map_byte(0x10);
-    map_byte(0x80);
-    map_byte(0xa5);
-    map_byte(0xff);
     bytes(0x0);
+    bytes(0x1);
+    bytes(0x2);
     bytes(0x8);
+    bytes(0x10);
+    bytes(0x80);
     bytes(0xa5);
     bytes(0xff);
 }
@@ -281,6 +260,8 @@ fn blocks() {
     above(0xff, 63);
     above(0xff, 64);
     above(0xff, FAR);
+    above(ALL, 1);
+    above(ALL, 63);
 }
 
 pub(crate) fn words() {

@@ -5,14 +5,12 @@ use Rattle.word.specs.Unique.{word-injective, fewest-injective}
 use Rattle.word.proofs.wrong_size.Reads as wrong-size
 use Rattle.word.proofs.slots.Reads as slots
 use Rattle.word.proofs.bit.Reads as bit
-use Rattle.word.proofs.put.Reads as put
 use Rattle.word.proofs.xor.Reads as xor
 use Rattle.word.proofs.less.Reads as less
 use Rattle.word.proofs.block.block.Reads as block
 use Rattle.word.proofs.block.above.Reads as above
 use Rattle.word.proofs.block.copies.Reads as copies
 use Rattle.word.proofs.matrix.bytes.Reads as bytes
-use Rattle.word.proofs.matrix.map_byte.Reads as map-byte
 use Rattle.word.proofs.matrix.map.Reads as map
 use Rattle.word.proofs.message.spread.Reads as spread
 use Rattle.word.proofs.message.gather.Reads as gather
@@ -31,9 +29,6 @@ slots-unique κs a r s v w p q = one-answer p q
 pub bit-unique : OneResult bit.Learnt
 bit-unique κs a r s v w p q = one-answer p q
 
-pub put-unique : OneResult put.Learnt
-put-unique κs a r s v w p q = word-injective r s (one-answer p q)
-
 pub xor-unique : OneResult xor.Learnt
 xor-unique κs a r s v w p q = word-injective r s (one-answer p q)
 
@@ -51,9 +46,6 @@ copies-unique κs a r s v w p q = word-injective r s (one-answer p q)
 
 pub bytes-unique : OneResult bytes.Learnt
 bytes-unique κs a r s v w p q = one-answer p q
-
-pub map-byte-unique : OneResult map-byte.Learnt
-map-byte-unique κs a r s v w p q = one-answer p q
 
 pub map-unique : OneResult map.Learnt
 map-unique κs a r s v w p q = word-injective r s (one-answer p q)

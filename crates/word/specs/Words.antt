@@ -1,8 +1,6 @@
 -- How contracts read a word, and what a word has room for. A later request makes a word four 64-bit words: then these change.
-use Prim.Native.Nat.{ℕ, _^_, min}
-use lib.Bits.{bitOr}
-use lib.Dec.{ltb}
-use mathlib.Core.Bool.{true, cond}
+use Prim.Native.Nat.{ℕ, min}
+use mathlib.Core.Bool.{true}
 use mathlib.Core.List.{List, map}
 use mathlib.Core.Option.{Option, none, some}
 use Rattle.rules.specs.Below.{listBelow}
@@ -18,10 +16,6 @@ wordOf w = w
 -- an n above the largest counts as the largest, so that a function of an n has an answer for every n
 abbrev pub sizeOf : ℕ → ℕ
 sizeOf n = min n largest
-
--- a word with a one put at index i; an index past the word changes nothing
-abbrev pub withOne : ℕ → ℕ → ℕ
-withOne w i = cond (ltb i (2 ^ largest)) (bitOr w (2 ^ i)) w
 
 -- the codewords of all bytes, in order
 abbrev pub byteWords : List ℕ

@@ -19,11 +19,11 @@ pub fn block(w: Word, i: usize, size: usize) -> u8
     }
 }
 
-// A number's bits from index i on; what lies past the word is lost.
-pub fn above(b: u8, i: usize) -> Word
-    ensures { λ r. ⌜ wordOf r ≡ b * 2 ^ i % 2 ^ (2 ^ largest) ⌝ }
+// A word's bits from index i on; what lies past the word is lost.
+pub fn above(w: Word, i: usize) -> Word
+    ensures { λ r. ⌜ wordOf r ≡ wordOf w * 2 ^ i % 2 ^ (2 ^ largest) ⌝ }
 {
-    if i < 64 { (b as u64) << i } else { 0 }
+    if i < 64 { w << i } else { 0 }
 }
 
 // A copy of a number's bits at each one of a word, which must have room for them.

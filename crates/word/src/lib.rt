@@ -1,4 +1,4 @@
-// Words of up to 64 bits: a bit, a one put in, sums modulo 2, comparison and counts; below, the matrix map and messages.
+// Words of up to 64 bits: a bit, sums modulo 2, comparison and counts; below, the matrix map and messages.
 // Every public function is total, and every contract reads a word through `wordOf`. No other crate does bit arithmetic on a word.
 pub mod block;
 pub mod count;
@@ -12,7 +12,7 @@ ghost use lib.Bits.{bitXor};
 ghost use lib.Dec.{ltb};
 ghost use Rattle.rules.specs.Word as rules;
 ghost use Rattle.rules.specs.Refusals.{isWrongSize};
-ghost use Rattle.word.specs.Words.{wordOf, sizeOf, withOne};
+ghost use Rattle.word.specs.Words.{wordOf, sizeOf};
 
 // A word: bit i stands for index i.
 pub type Word = u64;
@@ -36,13 +36,6 @@ pub fn bit(w: Word, i: usize) -> u32
     ensures { λ r. ⌜ r ≡ rules.bit (wordOf w) i ⌝ }
 {
     if i < 64 { ((w >> i) % 2) as u32 } else { 0 }
-}
-
-// The word with a one put at index i; an index past the word changes nothing.
-pub fn put(w: Word, i: usize) -> Word
-    ensures { λ r. ⌜ wordOf r ≡ withOne (wordOf w) i ⌝ }
-{
-    if i < 64 { w | (1 << i) } else { w }
 }
 
 // The sum of two words, bit by bit modulo 2.

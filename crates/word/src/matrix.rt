@@ -21,13 +21,6 @@ fn mapped(table: &[u8; 256], b: u8) -> u8
     table[b as usize]
 }
 
-// The codeword of a byte, at n = 3.
-pub fn map_byte(b: u8) -> u8
-    ensures { λ r. ⌜ r ≡ codeword 3 b ⌝ }
-{
-    mapped(&bytes(), b)
-}
-
 // At n = 4: the upper half's codeword, and below it the codeword of the sum of both halves.
 fn map16(table: &[u8; 256], w: u16) -> u16
     requires { ⌜ now table ≡ byteWords ⌝ }

@@ -1,13 +1,13 @@
 -- `tree::seat::covered` meets its contract. Invariant: the groups below k are done, and highest is a power of two near k.
 use Prim.Native.Nat.{ℕ, _+_, _-_, _*_, _^_, _≤_, _<_}
-use mathlib.Core.Path.{_≡_, refl, _∙_}
+use mathlib.Core.Path.{_≡_, refl, ap, _∙_}
 use mathlib.Core.Logic.{⊎-elim}
 use native.Mathlib.Omega.{arith}
+use lib.Bits.{bitXor}
 use lib.ListN.{getD}
 use borrow.Author.Needs.{needs}
 use Rattle.rules.specs.Word.{codeword}
-use Rattle.laws.specs.Matrix.{codeword-lt}
-use Rattle.tree.proofs.Covering.{Covering, Highest, covering-first, highest-itself, highest-still, some-highest, few-groups, moves, moved-fits, covering-next}
+use Rattle.tree.proofs.Covering.{Covering, Highest, covering-first, highest-itself, highest-still, some-highest, few-groups, moves, moved-xor, covering-next}
 use Rattle.tree.proofs.seat.covered.Statement.{statement}
 use Rattle.tree.proofs.seat.covered.Tie as tie
 
@@ -32,12 +32,13 @@ highest-at c =
     let inv = c .before .before .before .loop .inv in
     ⊎-elim (λ w. rw (w .1) (highest-itself inv (w .0 .taken))) (λ w. rw (w .1) (highest-still inv (w .0 .left))) (c .before .if1 .came)
 
--- the rest of the group is done
+-- what the rest of the group covers is done
+abbrev rest : tie.After-row-known Inv-loop μ-loop → ℕ
+rest c = getD (c .before .before .before .loop .r) (c .before .before .before .loop .k - c .before .if1 .highest) 0
+
 rest-at : (c : tie.After-row-known Inv-loop μ-loop)
-    → getD (c .before .before .before .loop .r) (c .before .before .before .loop .k - c .before .if1 .highest) 0
-    ≡ codeword 6 (2 ^ ((c .before .before .before .loop .k - c .before .if1 .highest) * c .before .before .before .before .args .size))
-rest-at c =
-    c .before .before .before .loop .inv .done _ (omega (arith, highest-at c .above, some-highest (highest-at c)))
+    → rest c ≡ codeword 6 (2 ^ ((c .before .before .before .loop .k - c .before .if1 .highest) * c .before .before .before .before .args .size))
+rest-at c = c .before .before .before .loop .inv .done _ (omega (arith, highest-at c .above, some-highest (highest-at c)))
 
 sub-rest : tie.Need-sub-rest Inv-loop μ-loop
 sub-rest c = highest-at c .above
@@ -48,20 +49,21 @@ mul-rest c = omega (arith, few-groups _ _ (c .before .before .before .before .pr
 array-read-rest : tie.Need-array-read-rest Inv-loop μ-loop
 array-read-rest c = omega (arith, few-groups _ _ (c .before .before .before .before .pre), c .before .before .loop-test .taken)
 
+mul-above : tie.Need-mul-above Inv-loop μ-loop
+mul-above c = omega (arith, moves _ _ (c .before .before .before .before .pre) (highest-at c) (c .before .before .loop-test .taken))
+
+above-requires : tie.Need-above-requires Inv-loop μ-loop
+above-requires c κs = search needs
+
+xor-requires : tie.Need-xor-requires Inv-loop μ-loop
+xor-requires c κs = search needs
+
 mul-r : tie.Need-mul-r Inv-loop μ-loop
-mul-r c = omega (arith, moves _ _ (c .before .before .before .before .pre) (highest-at c) (c .before .before .loop-test .taken))
-
-shl-r : tie.Need-shl-r Inv-loop μ-loop
-shl-r c = moves _ _ (c .before .before .before .before .pre) (highest-at c) (c .before .before .loop-test .taken)
-
-add-r : tie.Need-add-r Inv-loop μ-loop
-add-r c = record { fits = rw (moved-fits _ _ (c .before .before .before .before .pre) (highest-at c) (c .before .before .loop-test .taken) _ (rest-at c)) (codeword-lt 6 _) }
-
-mul-r-2 : tie.Need-mul-r-2 Inv-loop μ-loop
-mul-r-2 c = omega (arith, few-groups _ _ (c .before .before .before .before .pre), c .before .before .loop-test .taken)
+mul-r c = omega (arith, few-groups _ _ (c .before .before .before .before .before .before .pre), c .before .before .before .before .loop-test .taken)
 
 array-write-r-2 : tie.Need-array-write-r-2 Inv-loop μ-loop
-array-write-r-2 c = omega (arith, few-groups _ _ (c .before .before .before .before .pre), c .before .before .loop-test .taken)
+array-write-r-2 c =
+    omega (arith, few-groups _ _ (c .before .before .before .before .before .before .pre), c .before .before .before .before .loop-test .taken)
 
 add-k : tie.Need-add-k Inv-loop μ-loop
 add-k c = omega arith
@@ -71,9 +73,12 @@ loop-less c = omega arith
 
 loop-again : tie.Need-loop-again Inv-loop μ-loop
 loop-again c =
-    let inv = c .before .before .before .loop .inv in
-    covering-next _ _ (c .before .before .before .before .pre) (highest-at c) (c .before .before .loop-test .taken) (c .before .before .before .loop .r) _ (inv .long) (inv .done)
-    (moved-fits _ _ (c .before .before .before .before .pre) (highest-at c) (c .before .before .loop-test .taken) _ (rest-at c))
+    let known = c .before .before in
+    let given = known .before .before .before .before .pre in
+    let inside = known .before .before .loop-test .taken in
+    let inv = known .before .before .before .loop .inv in
+    covering-next _ _ given (highest-at known) inside (known .before .before .before .loop .r) _ (inv .long) (inv .done)
+    (c .xor .ensures ∙ ap (bitXor (rest known)) (c .before .above .ensures) ∙ moved-xor _ _ given (highest-at known) inside _ (rest-at known))
 
 returns : tie.Need-returns Inv-loop μ-loop
 returns c k h = c .before .loop .inv .done k (omega arith)
@@ -90,10 +95,10 @@ covered-spec =
     sub-rest
     mul-rest
     array-read-rest
+    mul-above
+    above-requires
+    xor-requires
     mul-r
-    shl-r
-    add-r
-    mul-r-2
     array-write-r-2
     add-k
     loop-less

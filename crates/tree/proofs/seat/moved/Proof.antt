@@ -13,6 +13,9 @@ use Rattle.tree.proofs.seat.moved.Tie as tie
 block-requires : tie.Need-block-requires
 block-requires c κs = search needs
 
+cast-above : tie.Need-cast-above
+cast-above c = search needs
+
 above-requires : tie.Need-above-requires
 above-requires c κs = search needs
 
@@ -30,4 +33,4 @@ returns c =
     ))
 
 pub moved-spec : {M : Type 1} → statement M
-moved-spec = tie.close (tie.spec block-requires above-requires returns)
+moved-spec = tie.close (tie.spec block-requires cast-above above-requires returns)

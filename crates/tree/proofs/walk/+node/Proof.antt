@@ -6,6 +6,7 @@ use native.Mathlib.Omega.{arith}
 use lib.ListN.{getD}
 use borrow.Author.Needs.{needs}
 use borrow.Author.Tests.{ltb-true, ltb-false}
+use Rattle.laws.specs.Matrix.{codeword-lt}
 use Rattle.tree.proofs.Steps.{narrow, first-seat, few-groups, inside, copies-fit, total-fits, given-down}
 use Rattle.tree.proofs.Trying.{Trying, Read, below, reading, next-right, code-right, total-is, own-right, at-leaf, given-next, trying-none, trying-end, trying-shut, trying-out, trying-cut, trying-stopped, trying-back}
 use borrow.Fn.Kinds.{In}
@@ -171,6 +172,11 @@ node-returns-3 t c =
     trying-cut inv here read _ (c .before .before .before .before .before .before .is-open .ensures) (c .before .before .before .before .before .if2 .taken)
     (ltb-false _ _ (sym (c .before .before .before .used-up .ensures) ∙ c .before .before .if3 .left)) _ refl (sym (c .before .farther .ensures) ∙ c .if4 .taken)
 
+node-cast-above : (t : ℕ) → node-lts.Need-cast-above (claims t) (node-at t) node.Post node-Inv-loop node-μ-loop
+node-cast-above t c =
+    let filled = c .before .before .before .before .before .before .before in
+    omega (arith, read-at t filled .filling-is, codeword-lt 3 (filled .before .own-bits .result))
+
 node-above-requires : (t : ℕ) → node-lts.Need-above-requires (claims t) (node-at t) node.Post node-Inv-loop node-μ-loop
 node-above-requires t c κs = search needs
 
@@ -190,8 +196,7 @@ node-node-requires t c κs =
     let filled = c .before .before .before .before .before .before .before .before .before .before in
     let inv = filled .before .before .before .before .loop .inv in
     let here = filled .before .before .before .loop-test .taken in
-    let read = read-at t filled in
-    (
+    let read = read-at t filled in (
       omega (arith, c .before .before .before .before .before .before .before .before .before .before .before .before .before .before .before .before .before .before .pre .0, c .before .before .before .before .before .before .before .before .before .before .before .before .before .before .before .before .before .if1 .left),
       given-down (inv .given) _ (below inv here) _ _ _ _ (next-right inv here read _ _ (c .before .xor .ensures) (c .before .before .above .ensures))
           (code-right inv here read _ (c .coded .ensures)) (total-is inv here read)
@@ -267,6 +272,7 @@ pub +node-spec : {M : Type 1} → statement M
     (node-add-total t)
     (node-farther-requires t)
     (node-returns-3 t)
+    (node-cast-above t)
     (node-above-requires t)
     (node-xor-requires t)
     (node-coded-requires t)

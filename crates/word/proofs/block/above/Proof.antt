@@ -23,7 +23,7 @@ returns : tie.Need-returns
 returns c = search needs
 
 returns-2 : tie.Need-returns-2
-returns-2 c = sym (past (c .before .args .b) (c .before .args .i) (c .if1 .left))
+returns-2 c = sym (past (c .before .args .w) (c .before .args .i) (c .if1 .left))
 
 pub above-spec : {M : Type 1} → statement M
 above-spec = tie.close (tie.spec shl-result returns returns-2)
