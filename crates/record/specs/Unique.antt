@@ -1,6 +1,5 @@
 -- The reading of a read record determines what is read.
 use mathlib.Core.Path.{_≡_, refl, ap}
-use Rattle.rules.specs.Refusals as rules
 use Rattle.rules.specs.Record as records
 use Rattle.refusal.specs.Unique.{refusal-injective}
 use Rattle.word.specs.Unique.{word-injective}

@@ -2,11 +2,11 @@
 use Prim.Native.Nat.{ℕ, zero, suc, _+_, _*_, _-_, _%_, _^_, _≤_, _<_}
 use mathlib.Core.Path.{_≡_, refl, sym, ap, _∙_}
 use mathlib.Core.List.{List, [], _∷_, _++_, append-nil}
-use native.Mathlib.Nat.{le-of-eq, le-trans, not-suc-le-zero}
+use native.Mathlib.Nat.{le-of-eq, le-trans, lt-of-lt-of-le, not-suc-le-zero}
 use native.Mathlib.Omega.{arith}
 use lib.IntN.{ℤ}
 use lib.ListN.{length, getD, take, drop, set, length-drop, drop-of-length-le}
-use lib.Pow.{pow-mono}
+use lib.Pow.{pow-lt, pow-mono}
 use lib.Seq.{getD-take, take-at, take-all, drop-append-add, drop-drop}
 use Rattle.rules.specs.Level.{limit}
 use Rattle.laws.specs.GreatestDistance.{slot-greatest}
@@ -40,6 +40,10 @@ seats-fewer k l h = record { within = omega (arith, h .within); held = λ t b. h
 -- the row of t slots has room where that of more slots has
 pub room : {t size n m : ℕ} → t ≤ size → 2 ^ size ≤ n → m ≡ n → 2 ^ t ≤ m
 room l h e = rw e (le-trans (pow-mono l) h)
+
+-- and more than that where it has fewer
+pub room-more : {t size n m : ℕ} → t < size → 2 ^ size ≤ n → m ≡ n → 2 ^ t < m
+room-more l h e = rw e (lt-of-lt-of-le (pow-lt l) h)
 
 -- an entry of a row takes less than 40 bits
 pub entry-small : (levels : List ℤ) (index : List ℕ) (first t : ℕ) → t < 8 → Levelled levels index first (suc t) → (from : List ℕ)

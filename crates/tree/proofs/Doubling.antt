@@ -1,4 +1,4 @@
--- One slot more, merged from both ends: what each turn stores is the next element from the front and the next from the back.
+-- One slot more, merged from both ends: the next element from the front and the next from the back, turn by turn.
 use Prim.Native.Nat.{ℕ, zero, suc, _+_, _-_, _≤_, _<_, min, max}
 use mathlib.Core.Path.{_≡_, refl, sym, ap, ap₂, _∙_}
 use mathlib.Core.Bool.{Bool, true, false, cond}
@@ -8,11 +8,11 @@ use native.Mathlib.Decide.{decLt}
 use native.Mathlib.Numerals.{add-one}
 use native.Mathlib.Omega.{arith}
 use lib.Dec.{ltb}
-use lib.ListN.{length, getD, take, drop, set, length-map, length-append}
+use lib.ListN.{length, getD, take, drop, length-map, length-append}
 use lib.Seq.{getD-drop, drop-drop, getD-take, getD-at, take-take, take-at, take-all, length-take-le}
-use borrow.Author.Tests.{ltb-true, ltb-false}
-use Rattle.tree.proofs.BothEnds.{BothEnds, ends-none, ends-front, ends-back, ends-all}
+use borrow.Author.Tests.{ltb-true, ltb-false, lt-ltb, le-ltb}
 use Rattle.laws.specs.SortedLists.{Rising, rising-at}
+use Rattle.tree.specs.Costs.{Mirrored}
 use Rattle.laws.specs.SortedRows.{merge, merge-length, merge-front-first, merge-front-second, merge-back-first, merge-back-second, doubled}
 
 -- each entry with x added
@@ -39,6 +39,20 @@ last-at r k v init l e =
       sym (take-take k (suc k) r (omega arith)) ∙ ap (λ (s : List ℕ). take k s) e ∙ take-at init (v ∷ []) k long,
     )
 
+-- counts and sums of one turn
+less-two : (m b e : ℕ) → m - b - e ≡ m - (b + e)
+less-two m b e = omega arith
+
+far-end : (m a b : ℕ) → a + b < m → m - b + (m - a) - 1 ≡ m + m - 1 - (a + b)
+far-end m a b l = omega arith
+
+left-to-sum : (p q r s sum x y : ℕ) → p + s ≡ sum → q + r ≡ sum → max (r + x) (s + y) ≡ sum + (x + y) - min (p + x) (q + y)
+left-to-sum p q r s sum x y e f = omega arith
+
+pub one-or-none : (t : Bool) → cond t 1 0 ≤ 1
+one-or-none true = omega arith
+one-or-none false = omega arith
+
 module _ (row : List ℕ) (x y : ℕ) where
   -- what is left to merge from the front is left of both halves
   abbrev pub Front : ℕ → ℕ → Type 0
@@ -50,6 +64,14 @@ module _ (row : List ℕ) (x y : ℕ) where
 
   pub doubled-length : length (doubled x y row) ≡ length row + length row
   doubled-length = merge-length (plus x row) (plus y row) ∙ rw (length-map, length-map)
+
+  -- at the start both halves are left whole
+  pub both-whole : (m : ℕ) → length row ≡ m → Back m m
+  both-whole m long =
+      take-all (m + m) _ (le-of-eq (doubled-length ∙ rw long)) ∙ sym (ap₂ merge (half x) (half y))
+    where
+      half : (z : ℕ) → take m (plus z row) ≡ plus z row
+      half z = take-all m (plus z row) (le-of-eq (length-map row (λ e. e + z) ∙ long))
 
   module _ (i : ℕ) (l : i < length row) where
     in-first : i < length (plus x row)
@@ -118,81 +140,36 @@ module _ (row : List ℕ) (x y : ℕ) where
             let end : c + d - 1 ≡ suc (p + q) = omega arith in
             (rw (sum, keeps, falls) (h .1), rw end (omega (arith, h .0, plus-at x row p lp)))
 
--- the merging of the first m entries of `from` into `to`, which began as `old`: a and b entries went to the front, and c and d
--- are left before those that went to the back
-pub record Merging (from : List ℕ) (m x y : ℕ) (old to : List ℕ) (a b c d : ℕ) : Type 0 where
-  pub met : a + b ≤ m
-  pub first-left : c ≤ m
-  pub second-left : d ≤ m
-  pub all : a + b + (c + d) ≡ m + m
-  pub front : Front (take m from) x y a b
-  pub back : Back (take m from) x y c d
-  pub ends : BothEnds (doubled x y (take m from)) old to (a + b) (c + d)
+    -- in a mirrored row both turns go alike: what goes to the back is what is left to the sum
+    module _ (m : ℕ) (long : length row ≡ m) (mirrored : Mirrored row m) where
+      abbrev pub Sum : ℕ
+      Sum = getD row 0 0 + getD row (m - 1) 0 + (x + y)
 
-module _ (from : List ℕ) (m x y : ℕ) (old : List ℕ) (whole : m ≤ length from) (room : m + m ≤ length old) where
-  long : length (take m from) ≡ m
-  long = length-take-le m from whole
+      -- the turn that t says, from both ends
+      pub record Turned (a b : ℕ) (t : Bool) : Type 0 where
+        pub front : Front (a + cond t 1 0) (b + (1 - cond t 1 0))
+        pub back : Back (m - (b + (1 - cond t 1 0))) (m - (a + cond t 1 0))
+        pub first : getD (doubled x y row) (a + b) 0 ≡ min (getD row a 0 + x) (getD row b 0 + y)
+        pub last : getD (doubled x y row) (m + m - 1 - (a + b)) 0 ≡ Sum - min (getD row a 0 + x) (getD row b 0 + y)
 
-  twice : length (doubled x y (take m from)) ≡ m + m
-  twice = doubled-length (take m from) x y ∙ rw long
-
-  half : (z : ℕ) → take m (plus z (take m from)) ≡ plus z (take m from)
-  half z = take-all m (plus z (take m from)) (le-of-eq (length-map (take m from) (λ e. e + z) ∙ long))
-
-  pub merging-none : Merging from m x y old old 0 0 m m
-  merging-none = record {
-    met = omega arith;
-    first-left = omega arith;
-    second-left = omega arith;
-    all = omega arith;
-    front = refl;
-    back = take-all (m + m) _ (le-of-eq twice) ∙ sym (ap₂ merge (half x) (half y));
-    ends = rw (← twice) (ends-none _ old);
-  }
-
-  pub merging-all : {to : List ℕ} {a b c d : ℕ} → Merging from m x y old to a b c d → m ≤ a + b
-      → to ≡ doubled x y (take m from) ++ drop (m + m) old
-  merging-all s l = rw twice at (ends-all (rw twice room) (s .ends) (omega (arith, s .all)))
-
-  -- a turn: t says that the first half's head goes to the front, u that the second half's end goes to the back
-  pub merging-turn : Rising _<_ (take m from) → {to : List ℕ} {a b c d v w : ℕ} (t u : Bool) → Merging from m x y old to a b c d → a + b < m
-      → ltb (getD from a 0 + x) (getD from b 0 + y) ≡ t
-      → v ≡ min (getD from a 0 + x) (getD from b 0 + y)
-      → ltb (getD from (c - 1) 0 + x) (getD from (d - 1) 0 + y) ≡ u
-      → w ≡ max (getD from (c - 1) 0 + x) (getD from (d - 1) 0 + y)
-      → Merging from m x y old (set (set to (a + b) v) (c + d - 1) w) (a + cond t 1 0) (b + (1 - cond t 1 0)) (c - (1 - cond u 1 0)) (d - cond u 1 0)
-  merging-turn rising {to} {a} {b} {c} {d} {v} {w} t u s l et ev eu ew =
-      let f = front-turn row x y a b (omega (arith, long)) (omega (arith, long)) (s .front) t (rw (same a (omega arith), same b (omega arith)) et) in
-      let g = back-turn row x y rising c d (c - 1) (d - 1) (omega arith) (omega arith) (omega (arith, long)) (omega (arith, long)) (s .back) u
-      (rw (same (c - 1) (omega arith), same (d - 1) (omega arith)) eu) in
-      let one-front = small t in
-      let one-back = small u in
-      let at-front : a + cond t 1 0 + (b + (1 - cond t 1 0)) ≡ suc (a + b) = omega arith in
-      let at-back : c - (1 - cond u 1 0) + (d - cond u 1 0) ≡ c + d - 1 = omega arith in
-      record {
-        met = omega arith;
-        first-left = omega arith;
-        second-left = omega arith;
-        all = omega arith;
-        front = f .0;
-        back = g .0;
-        ends = rw (at-front, at-back)
-            (both (f .1 ∙ rw (same a (omega arith), same b (omega arith)) (sym ev)) (g .1 ∙ rw (same (c - 1) (omega arith), same (d - 1) (omega arith)) (sym ew)));
-      }
-    where
-      row : List ℕ
-      row = take m from
-
-      same : (i : ℕ) → i < m → getD row i 0 ≡ getD from i 0
-      same i h = getD-take m from i 0 h
-
-      small : (t : Bool) → cond t 1 0 ≤ 1
-      small true = omega arith
-      small false = omega arith
-
-      both : getD (doubled x y row) (a + b) 0 ≡ v → getD (doubled x y row) (c + d - 1) 0 ≡ w
-          → BothEnds (doubled x y row) old (set (set to (a + b) v) (c + d - 1) w) (suc (a + b)) (c + d - 1)
-      both hv hw =
-          let end : c + d ≡ suc (c + d - 1) = omega arith in
-          let fits : length (doubled x y row) ≤ length old = rw twice room in
-          rw (hv, hw) at (ends-back fits (rw end at (ends-front fits (s .ends) (omega (arith, twice)))) (omega (arith, twice)))
+      pub turned : (a b : ℕ) → a + b < m → Front a b → Back (m - b) (m - a) → (t : Bool) → ltb (getD row a 0 + x) (getD row b 0 + y) ≡ t → Turned a b t
+      turned a b l f g t e =
+          let mirror-a = mirrored a (omega arith) in
+          let mirror-b = mirrored b (omega arith) in
+          let h = front-turn a b (omega arith) (omega arith) f t e in
+          let k =
+          back-turn (m - b) (m - a) (m - 1 - b) (m - 1 - a) (omega arith) (omega arith) (omega arith) (omega arith) g t (alike t e mirror-a mirror-b)
+          in
+          record {
+            front = h .0;
+            back = rw (less-two m b (1 - cond t 1 0), less-two m a (cond t 1 0)) at (k .0);
+            first = h .1;
+            last = rw (far-end m a b l) at (k .1) ∙ left-to-sum _ _ _ _ _ x y mirror-a mirror-b;
+          }
+        where
+          alike : (t : Bool) → ltb (getD row a 0 + x) (getD row b 0 + y) ≡ t
+              → getD row a 0 + getD row (m - 1 - a) 0 ≡ getD row 0 0 + getD row (m - 1) 0
+              → getD row b 0 + getD row (m - 1 - b) 0 ≡ getD row 0 0 + getD row (m - 1) 0
+              → ltb (getD row (m - 1 - b) 0 + x) (getD row (m - 1 - a) 0 + y) ≡ t
+          alike true e p q = let less = ltb-true (getD row a 0 + x) (getD row b 0 + y) e in lt-ltb (getD row (m - 1 - b) 0 + x) (getD row (m - 1 - a) 0 + y) (omega arith)
+          alike false e p q = let more = ltb-false (getD row a 0 + x) (getD row b 0 + y) e in le-ltb (getD row (m - 1 - b) 0 + x) (getD row (m - 1 - a) 0 + y) (omega arith)

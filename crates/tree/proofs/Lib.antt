@@ -10,6 +10,8 @@ pub mod Trying
 pub mod Costs
 pub mod BothEnds
 pub mod Doubling
+pub mod Mirrors
+pub mod Merging
 pub mod Building
 pub mod Places
 pub mod Searching

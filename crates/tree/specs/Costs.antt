@@ -1,5 +1,5 @@
 -- How contracts read the levels at the seats of a group, their costs, and the rows made of them.
-use Prim.Native.Nat.{ℕ, _+_, _*_, _^_, _≤_, _<_}
+use Prim.Native.Nat.{ℕ, _+_, _-_, _*_, _^_, _≤_, _<_}
 use mathlib.Core.Path.{_≡_}
 use mathlib.Core.Bool.{true, not, cond}
 use mathlib.Core.Option.{Option, some, none}
@@ -19,6 +19,10 @@ firstOut levels = firstBelow (length levels) (λ i. not (inRange (levelAt levels
 -- the slot that a search among so many slots ended at, or none at their number
 abbrev pub slotFound : ℕ → ℕ → Option ℕ
 slotFound slots i = cond (ltb i slots) (some i) none
+
+-- the first m of a list are mirrored: each and the one as far from the other end add up to one sum
+abbrev pub Mirrored : List ℕ → ℕ → Type 0
+Mirrored l m = (i : ℕ) → i < m → getD l i 0 + getD l (m - 1 - i) 0 ≡ getD l 0 0 + getD l (m - 1) 0
 
 -- a group has 1, 2, 4 or 8 slots
 abbrev pub GroupSize : ℕ → Type 0

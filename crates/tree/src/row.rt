@@ -3,13 +3,13 @@
 ghost use mathlib.Core.Path.{_≡_};
 ghost use mathlib.Core.Bool.{cond};
 ghost use mathlib.Core.List.{_++_};
-ghost use Prim.Native.Nat.{ℕ, suc, _+_, _*_, _^_, _<_, _≤_, min, max};
+ghost use Prim.Native.Nat.{ℕ, suc, _+_, _*_, _^_, _<_, _≤_, min};
 ghost use lib.Dec.{ltb};
 ghost use lib.ListN.{length, getD, take, drop};
 ghost use Rattle.rules.specs.Level.{levelAt};
 ghost use Rattle.laws.specs.SortedLists.{Rising};
 ghost use Rattle.laws.specs.SortedRows.{doubled};
-ghost use Rattle.tree.specs.Costs.{seatRow, GroupSize, Levelled, RowsRight};
+ghost use Rattle.tree.specs.Costs.{seatRow, GroupSize, Levelled, Mirrored, RowsRight};
 use crate::cost::slot_costs;
 
 fn least(x: u64, y: u64) -> u64
@@ -18,10 +18,11 @@ fn least(x: u64, y: u64) -> u64
     if x < y { x } else { y }
 }
 
-fn greatest(x: u64, y: u64) -> u64
-    ensures { λ r. ⌜ r ≡ max x y ⌝ }
+// The one or the other.
+fn either(first: bool, x: u64, y: u64) -> u64
+    ensures { λ r. ⌜ r ≡ cond first x y ⌝ }
 {
-    if x < y { y } else { x }
+    if first { x } else { y }
 }
 
 // 1 where x is the smaller, else 0.
@@ -32,31 +33,31 @@ fn less(x: u64, y: u64) -> usize
 }
 
 // The row of one slot more: the first m entries once with `zero` and once with `one` added, merged.
-// It is filled from both ends at once, m entries from each, so that neither half runs out and no branch goes by the data:
-// of the two halves a and b entries went to the front, and c and d are left before those that went to the back.
+// A row is its own mirror image: an entry and the one as far from the other end add up to one sum, since their patterns are
+// each other's opposite. So the lower half is merged and the upper half is what is left to that sum. Of both halves
+// a and b entries went; p and q are the next ones. No branch goes by the data, and the next entries are read ahead.
 fn double(from: &[u64], to: &mut [u64], m: usize, zero: u64, one: u64)
-    requires { ⌜ (m ≤ length (now from)) × (m + m ≤ length (now to)) ⌝ }
-    requires { ⌜ Rising _<_ (take m (now from)) ⌝ }
-    requires { ⌜ ((i : ℕ) → i < m → getD (now from) i 0 + (zero + one) < 2 ^ 64) ⌝ }
+    requires { ⌜ (0 < m) × (m < length (now from)) × (m + m ≤ length (now to)) ⌝ }
+    requires { ⌜ Rising _<_ (take m (now from)) × Mirrored (now from) m ⌝ }
+    requires { ⌜ ((i : ℕ) → i < m → getD (now from) i 0 + (zero + one) < 2 ^ 63) ⌝ }
     ensures { λ _. ⌜ now (to .exit) ≡ doubled zero one (take m (now (from .entry))) ++ drop (m + m) (now (to .entry)) ⌝ }
 {
+    let both = from[0] + from[m - 1] + (zero + one);
     let mut a = 0;
     let mut b = 0;
-    let mut c = m;
-    let mut d = m;
+    let mut p = from[0];
+    let mut q = from[0];
     while a + b < m {
-        let x = from[a] + zero;
-        let y = from[b] + one;
+        let x = p + zero;
+        let y = q + one;
+        let v = least(x, y);
+        to[a + b] = v;
+        to[m + m - 1 - (a + b)] = both - v;
+        p = either(x < y, from[a + 1], p);
+        q = either(x < y, q, from[b + 1]);
         let first = less(x, y);
-        to[a + b] = least(x, y);
-        let z = from[c - 1] + zero;
-        let w = from[d - 1] + one;
-        let last = less(z, w);
-        to[c + d - 1] = greatest(z, w);
         a += first;
         b += 1 - first;
-        c -= 1 - last;
-        d -= last;
     }
 }
 
@@ -79,7 +80,7 @@ fn add_slot(
     first: usize,
 )
     requires { ⌜ (t < 8) × Levelled (now levels) (now index) first (suc t) ⌝ }
-    requires { ⌜ (2 ^ t ≤ length (now from)) × (2 ^ suc t ≤ length (now to)) ⌝ }
+    requires { ⌜ (2 ^ t < length (now from)) × (2 ^ suc t ≤ length (now to)) ⌝ }
     requires { ⌜ take (2 ^ t) (now from) ≡ seatRow (now levels) (now index) first t ⌝ }
     ensures { λ _. ⌜ now (to .exit) ≡ seatRow (now (levels .entry)) (now (index .entry)) first (suc t) ++ drop (2 ^ suc t) (now (to .entry)) ⌝ }
 {

@@ -1,10 +1,9 @@
 // Seats: the indices ordered group after group, each group's indices rising. Words with their bits in that order.
 ghost use mathlib.Core.Path.{_≡_};
 ghost use Prim.Native.Nat.{ℕ, _+_, _*_, _^_, _≤_, _<_};
-ghost use lib.ListN.{getD, take};
+ghost use lib.ListN.{take};
 ghost use Rattle.rules.specs.Below.{countBelow};
 ghost use Rattle.rules.specs.Word.{bit};
-ghost use Rattle.rules.specs.Refusals.{largest};
 ghost use Rattle.laws.specs.Seats as laws;
 ghost use Rattle.laws.specs.SeatWords.{seat, unseat};
 ghost use Rattle.word.specs.Words.{wordOf};

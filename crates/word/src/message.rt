@@ -1,6 +1,6 @@
 // Messages: to an information word and back, bit by bit over the unfrozen indices.
 ghost use mathlib.Core.Path.{_≡_};
-ghost use Prim.Native.Nat.{_*_, _^_, _<_, _≤_};
+ghost use Prim.Native.Nat.{_*_, _^_, _<_};
 ghost use Rattle.rules.specs.Word as rules;
 ghost use Rattle.word.specs.Words.{wordOf, sizeOf};
 use crate::Word;

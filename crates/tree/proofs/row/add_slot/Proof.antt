@@ -3,12 +3,13 @@ use Prim.Native.Nat.{suc, _+_, _^_}
 use mathlib.Core.Path.{_≡_, _∙_}
 use native.Mathlib.Nat.{two-pow-succ}
 use native.Mathlib.Omega.{arith}
-use lib.Pow.{pow-mono}
+use lib.Pow.{pow-mono, pow-pos}
 use mir.Syntax.{w32}
 use mir.ValLaws.{toZ-ofZ}
 use Rattle.laws.specs.SortedRows.{rowOf, row-rising}
 use Rattle.word.proofs.Shifts.{one-shifted}
 use Rattle.tree.proofs.Building.{entry-small}
+use Rattle.tree.proofs.Mirrors.{row-mirrored, begins-mirrored}
 use borrow.Author.Needs.{needs, sfits-of}
 use Rattle.tree.proofs.row.add_slot.Statement.{statement}
 use Rattle.tree.proofs.row.add_slot.Tie as tie
@@ -48,9 +49,12 @@ double-requires c κs =
     let m = one-shifted (s .args .t) (omega arith) in
     let few = pow-mono (s .pre .0 .0) in
     rw m (
-      (s .pre .1 .0 .0, omega (arith, two-pow-succ (s .args .t), s .pre .1 .0 .1)),
+      (pow-pos (s .args .t), s .pre .1 .0 .0, omega (arith, two-pow-succ (s .args .t), s .pre .1 .0 .1)),
       (
-        rw (s .pre .1 .1) (row-rising _ (s .args .t) (omega arith)),
+        (
+          rw (s .pre .1 .1) (row-rising _ (s .args .t) (omega arith)),
+          begins-mirrored (s .args .from .now) (2 ^ (s .args .t)) _ (s .pre .1 .1) (row-mirrored _ (s .args .t) (omega arith)),
+        ),
         λ i l. omega (arith, entry-small _ _ (s .args .first) (s .args .t) (s .pre .0 .0) (s .pre .0 .1) (s .args .from .now) (s .pre .1 .1) i l, few),
       ),
     )

@@ -1,8 +1,8 @@
 -- `tree::row::fill_row` meets its contract: before each turn the row begins with that of the group's first t slots.
-use Prim.Native.Nat.{ℕ, suc, _+_, _-_, _%_, _^_, _≤_}
+use Prim.Native.Nat.{ℕ, suc, _+_, _-_, _%_, _^_, _≤_, _<_}
 use mathlib.Core.Path.{_≡_, refl, ap, _∙_}
 use mathlib.Core.List.{List, _++_}
-use native.Mathlib.Nat.{le-of-lt, le-trans}
+use native.Mathlib.Nat.{le-trans}
 use native.Mathlib.Numerals.{add-one}
 use native.Mathlib.Omega.{arith}
 use borrow.Author.Needs.{needs}
@@ -11,7 +11,7 @@ use lib.Pow.{pow-pos}
 use lib.Seq.{drop-set-lt}
 use Rattle.laws.specs.SortedRows.{rowOf}
 use Rattle.tree.specs.Costs.{seatCost}
-use Rattle.tree.proofs.Building.{size-small, size-even, seats-fewer, room, built-none, built-take, built-more}
+use Rattle.tree.proofs.Building.{size-small, size-even, seats-fewer, room, room-more, built-none, built-take, built-more}
 use Rattle.tree.proofs.row.fill_row.Statement.{statement}
 use Rattle.tree.proofs.row.fill_row.Tie as tie
 
@@ -33,7 +33,7 @@ add-slot-requires c κs =
     let some = le-trans (pow-pos (s .args .size)) (s .pre .1 .1) in (
       (omega arith, seats-fewer 1 one (s .pre .0 .1)),
       (
-        (rw (length-set (s .args .spare .now) 0 0) some, room one (s .pre .1 .0) refl),
+        (room-more {t = 0} one (s .pre .1 .1) (length-set (s .args .spare .now) 0 0), room one (s .pre .1 .0) refl),
         built-take _ 0 (set (s .args .spare .now) 0 0) (built-none _ (s .args .spare .now) some),
       ),
     )
@@ -62,7 +62,7 @@ add-slot-requires-2 c κs =
     let less = c .before .before .loop-test .taken in
     let long = l .inv .2 ∙ length-set (s .args .row .now) 0 0 in (
       (omega (arith, size-small (s .pre .0 .0)), seats-fewer (suc (l .t)) less (s .pre .0 .1)),
-      ((room (le-of-lt less) (s .pre .1 .0) long, room less (s .pre .1 .1) (l .inv .3)), built-take _ (l .t) (set (s .args .row .now) 0 0) (l .inv .4)),
+      ((room-more less (s .pre .1 .0) long, room less (s .pre .1 .1) (l .inv .3)), built-take _ (l .t) (set (s .args .row .now) 0 0) (l .inv .4)),
     )
 
 add-add-slot : tie.Need-add-add-slot Inv-loop μ-loop
@@ -76,11 +76,12 @@ add-slot-requires-3 c κs =
     let cost : ℕ → ℕ → ℕ = seatCost (s .args .levels .now) (s .args .index .now) (s .args .first) in
     let less = c .before .before .before .before .before .before .before .loop-test .taken in
     let next : suc (t + 1) ≤ s .args .size = omega (arith, size-even (s .pre .0 .0) (l .before .if1 .left)) in
+    let fewer : suc t < s .args .size = omega (arith, next) in
     let long = l .loop .inv .2 ∙ length-set (s .args .row .now) 0 0 in
     let step = c .before .before .before .before .add-slot2 in (
       (omega (arith, size-small (s .pre .0 .0)), seats-fewer (suc (t + 1)) next (s .pre .0 .1)),
       (
-        (rw (add-one t) (room less (s .pre .1 .1) (step .kept .1 .0 ∙ l .loop .inv .3)), room next (s .pre .1 .0) long),
+        (rw (add-one t) (room-more fewer (s .pre .1 .1) (step .kept .1 .0 ∙ l .loop .inv .3)), room next (s .pre .1 .0) long),
         rw (add-one t) (built-take cost (suc t) (l .loop .spare) (step .ensures)),
       ),
     )
