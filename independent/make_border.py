@@ -1,8 +1,9 @@
 #!/usr/bin/env python3
-"""Writes border.bin, border.txt (by reference.py) and BORDER.md.
+"""Writes crates/border/stdin, crates/border/stdout (by reference.py) and docs/BORDER.md.
 
-Every record carries its own words on what it shows, and BORDER.md lists them.
+Every record carries its own words on what it shows, and docs/BORDER.md lists them.
 """
+import os
 import struct
 
 import reference
@@ -245,9 +246,12 @@ for n in (2, 3, 4, 5, 6):
     folding = {2: 3, 3: 6, 4: 13, 5: 25, 6: 50}[n]
     add("n %d, a random mask, noise 150, folding %d" % (n, folding), n, folding, 100000, mask, noisy(n, mask, 150))
 
-with open("border.bin", "wb") as binary, open("border.txt", "w") as text, open("BORDER.md", "w") as notes:
-    notes.write("# border.bin\n\nRecords at the borders of document 01's rules, and what `blocks` must print for each\n"
-                "(border.txt, written by reference.py). Made by make_border.py.\n")
+root = os.path.dirname(os.path.dirname(os.path.abspath(__file__)))
+crate = os.path.join(root, "crates", "border")
+with open(os.path.join(crate, "stdin"), "wb") as binary, open(os.path.join(crate, "stdout"), "w") as text, \
+        open(os.path.join(root, "docs", "BORDER.md"), "w") as notes:
+    notes.write("# The recorded blocks at the borders\n\nWhat each record of crates/border/stdin is there for, and the line that "
+                "must come (crates/border/stdout). Both were made from document 01 alone.\n")
     number = 0
     for title, records in sections:
         last = number + len(records) - 1
