@@ -5,12 +5,12 @@ use record::piece::MOST_RECORDS;
 use record::piece::Written;
 use record::piece::lines;
 
-// How many records are read at once, the bytes of them, and the room for their lines.
-const PIECE_RECORDS: u32 = 400;
+// How many records are read at once; 144 bytes for each; the room of the longest line, 56 bytes, for each and one more.
+const PIECE_RECORDS: u32 = 200;
 
-const PIECE: usize = 57600;
+const PIECE: usize = 200 * 144;
 
-const ROOM: usize = 22456;
+const ROOM: usize = 56 * (200 + 1);
 
 // Reads a piece and writes its lines. Whether it was full and its lines were taken.
 fn pass(number: u32, piece: &mut [u8], out: &mut [u8]) -> bool {

@@ -1,4 +1,4 @@
--- One slot more, merged from both ends: the next element from the front and the next from the back, turn by turn.
+-- One slot more: the merged row from both ends, turn by turn, and that in a mirrored row both ends go alike.
 use Prim.Native.Nat.{ℕ, zero, suc, _+_, _-_, _≤_, _<_, min, max}
 use mathlib.Core.Path.{_≡_, refl, sym, ap, ap₂, _∙_}
 use mathlib.Core.Bool.{Bool, true, false, cond}

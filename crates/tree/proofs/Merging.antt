@@ -55,18 +55,22 @@ module _ (from : List ℕ) (m x y : ℕ) (old : List ℕ) (some : 0 < m) (whole 
   pub merging-all : {to : List ℕ} {a b p q : ℕ} → Merging from m x y old to a b p q → m ≤ a + b → to ≡ doubled x y (take m from) ++ drop (m + m) old
   merging-all s l = rw twice at (ends-all (rw twice room) (s .ends) (omega (arith, s .met)))
 
-  module _ (rising : Rising _<_ (take m from)) (mirrored : Mirrored from m) {to : List ℕ} {a b p q : ℕ} (s : Merging from m x y old to a b p q) (l : a + b < m) where
+  module _ (rising : Rising _<_ (take m from)) (mirrored : Mirrored (take m from) m) {to : List ℕ} {a b p q : ℕ} (s : Merging from m x y old to a b p q) (l : a + b < m) where
     same : (i : ℕ) → i < m → getD (take m from) i 0 ≡ getD from i 0
     same i h = getD-take m from i 0 h
-
-    row-mirrored : Mirrored (take m from) m
-    row-mirrored i h = rw (same i h, same (m - 1 - i) (omega arith), same 0 some, same (m - 1) (omega arith)) (mirrored i h)
 
     first-is : getD (take m from) a 0 ≡ p
     first-is = same a (omega arith) ∙ sym (s .first)
 
     second-is : getD (take m from) b 0 ≡ q
     second-is = same b (omega arith) ∙ sym (s .second)
+
+    whole-sum : getD (take m from) 0 0 + getD (take m from) (m - 1) 0 + (x + y) ≡ sumOf from m x y
+    whole-sum = ap₂ (λ (i j : ℕ). i + j + (x + y)) (same 0 some) (same (m - 1) (omega arith))
+
+    -- the smaller entry is not above the sum
+    pub turn-fits : min (p + x) (q + y) ≤ sumOf from m x y
+    turn-fits = omega (arith, whole-sum, first-is, mirrored a (omega arith))
 
     -- a turn: the smaller entry goes to the front, and what is left to the sum to the back
     pub merging-turn : (v w : ℕ) → v ≡ min (p + x) (q + y) → w ≡ sumOf from m x y - v
@@ -77,15 +81,12 @@ module _ (from : List ℕ) (m x y : ℕ) (old : List ℕ) (some : 0 < m) (whole 
         let t = ltb (p + x) (q + y) in
         let small = one-or-none t in
         let turn =
-        turned (take m from) x y rising m long row-mirrored a b l (s .front) (s .back) t (ap₂ (λ (i j : ℕ). ltb (i + x) (j + y)) first-is second-is)
+        turned (take m from) x y rising m long mirrored a b l (s .front) (s .back) t (ap₂ (λ (i j : ℕ). ltb (i + x) (j + y)) first-is second-is)
         in
         let sum : a + cond t 1 0 + (b + (1 - cond t 1 0)) ≡ suc (a + b) = omega (arith, small) in
         let far : m + m - suc (a + b) ≡ m + m - 1 - (a + b) = omega arith in
         let goes : min (getD (take m from) a 0 + x) (getD (take m from) b 0 + y) ≡ min (p + x) (q + y) =
         ap₂ (λ (i j : ℕ). min (i + x) (j + y)) first-is second-is
-        in
-        let whole-sum : getD (take m from) 0 0 + getD (take m from) (m - 1) 0 + (x + y) ≡ sumOf from m x y =
-        ap₂ (λ (i j : ℕ). i + j + (x + y)) (same 0 some) (same (m - 1) (omega arith))
         in
         record {
           met = omega (arith, sum, l);

@@ -1,14 +1,13 @@
 -- A sorted row is its own mirror image: an entry and the one as far from the other end add up to one sum.
 use Prim.Native.Nat.{ℕ, zero, suc, _+_, _-_, _*_, _^_, _≤_, _<_}
-use mathlib.Core.Path.{_≡_, refl, sym, ap, _∙_}
+use mathlib.Core.Path.{_≡_, refl, sym, _∙_}
 use mathlib.Core.Bool.{cond}
 use mathlib.Core.List.{List}
 use native.Mathlib.Nat.{add-comm, sub-zero, two-pow-succ}
 use native.Mathlib.Decide.{decLt}
 use native.Mathlib.Omega.{arith}
 use lib.Dec.{ltb}
-use lib.ListN.{length, getD, take}
-use lib.Seq.{getD-take}
+use lib.ListN.{length, getD}
 use Rattle.laws.specs.SortedLists.{Rising}
 use Rattle.laws.specs.SortedRows.{rowOf, doubled, row-length, row-rising}
 use Rattle.tree.specs.Costs.{Mirrored}
@@ -65,10 +64,3 @@ row-mirrored cost zero s = λ i l. let e : i ≡ 0 = omega arith in rw e
 row-mirrored cost (suc t) s =
     let twice : 2 ^ t + 2 ^ t ≡ 2 ^ suc t = omega (arith, two-pow-succ t) in
     rw twice at (doubled-mirrored (rowOf cost t) (cost t 0 * 256) (cost t 1 * 256 + 2 ^ t) (row-rising cost t (omega arith)) (2 ^ t) (row-length cost t) (row-mirrored cost t (omega arith)))
-
--- a list that begins with a mirrored one is mirrored there
-pub begins-mirrored : (from : List ℕ) (m : ℕ) (row : List ℕ) → take m from ≡ row → Mirrored row m → Mirrored from m
-begins-mirrored from m row e mirrored i l = rw (at i l, at (m - 1 - i) (omega arith), at 0 (omega arith), at (m - 1) (omega arith)) (mirrored i l)
-  where
-    at : (j : ℕ) → j < m → getD from j 0 ≡ getD row j 0
-    at j h = sym (getD-take m from j 0 h) ∙ ap (λ (l : List ℕ). getD l j 0) e

@@ -1,4 +1,5 @@
--- How contracts read the levels at the seats of a group, their costs, and the rows made of them.
+-- How contracts read the levels: the first out of range, those at the seats of a group, their costs, and the sorted rows made
+-- of them.
 use Prim.Native.Nat.{ℕ, _+_, _-_, _*_, _^_, _≤_, _<_}
 use mathlib.Core.Path.{_≡_}
 use mathlib.Core.Bool.{true, not, cond}

@@ -1,4 +1,4 @@
--- What the steps that build the seats ask of the indices so far.
+-- What the steps that build the seats ask of the indices so far, and what a list of seats and one of covered groups hold.
 use Prim.Native.Nat.{ℕ, _+_, _*_, _^_, _≤_, _<_}
 use mathlib.Core.List.{List}
 use mathlib.Core.Path.{_≡_}

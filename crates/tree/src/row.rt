@@ -34,11 +34,11 @@ fn less(x: u64, y: u64) -> usize
 
 // The row of one slot more: the first m entries once with `zero` and once with `one` added, merged.
 // A row is its own mirror image: an entry and the one as far from the other end add up to one sum, since their patterns are
-// each other's opposite. So the lower half is merged and the upper half is what is left to that sum. Of both halves
-// a and b entries went; p and q are the next ones. No branch goes by the data, and the next entries are read ahead.
+// each other's opposite. So its lower half is merged and its upper half is what is left to that sum. Of the entries with
+// bit 0 a went, of those with bit 1 b, and p and q are the next. No branch goes by the data, and p and q are read ahead.
 fn double(from: &[u64], to: &mut [u64], m: usize, zero: u64, one: u64)
     requires { ⌜ (0 < m) × (m < length (now from)) × (m + m ≤ length (now to)) ⌝ }
-    requires { ⌜ Rising _<_ (take m (now from)) × Mirrored (now from) m ⌝ }
+    requires { ⌜ Rising _<_ (take m (now from)) × Mirrored (take m (now from)) m ⌝ }
     requires { ⌜ ((i : ℕ) → i < m → getD (now from) i 0 + (zero + one) < 2 ^ 63) ⌝ }
     ensures { λ _. ⌜ now (to .exit) ≡ doubled zero one (take m (now (from .entry))) ++ drop (m + m) (now (to .entry)) ⌝ }
 {

@@ -11,7 +11,7 @@ use word::Word;
 // A distance greater than any word's: there is no best word yet.
 const NO_BEST: u64 = 4294967296;
 
-// The allowance is used up where the visits are greater.
+// What the walk has so far: the best word, its distance, and the visits. The allowance is used up where the visits are greater.
 pub(crate) struct Walked {
     pub(crate) word: Word,
     pub(crate) distance: u64,

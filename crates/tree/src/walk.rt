@@ -22,7 +22,8 @@ use crate::state::start;
 use crate::state::used_up;
 use word::Word;
 
-// What every node of one tree shares: the frozen mask in seat order, and how many indices a group has.
+// What every node of one tree shares: n, the folding, how many indices a group has, the frozen mask in seat order, and how
+// many visits are allowed.
 pub(crate) struct Tree {
     pub(crate) n: u32,
     pub(crate) folding: u32,

@@ -1,4 +1,4 @@
--- How contracts read a word, and what a word has room for. A later request makes a word four 64-bit words: then these change.
+-- How contracts read a word, and what a word has room for.
 use Prim.Native.Nat.{ℕ, min}
 use mathlib.Core.Bool.{true}
 use mathlib.Core.List.{List, map}

@@ -1,4 +1,4 @@
-// Blocks: up to eight neighbouring bits of a word, as a number.
+// Blocks: up to eight neighbouring bits of a word as a number, a word moved up, and copies of a number's bits in a word.
 ghost use mathlib.Core.Path.{_≡_};
 ghost use Prim.Native.Nat.{_*_, _/_, _%_, _^_, _<_, min};
 ghost use Rattle.rules.specs.Refusals.{largest};
@@ -19,7 +19,7 @@ pub fn block(w: Word, i: usize, size: usize) -> u8
     }
 }
 
-// A word's bits from index i on; what lies past the word is lost.
+// The word moved up, bit 0 to index i; what passes the word is lost.
 pub fn above(w: Word, i: usize) -> Word
     ensures { λ r. ⌜ wordOf r ≡ wordOf w * 2 ^ i % 2 ^ (2 ^ largest) ⌝ }
 {

@@ -1,5 +1,5 @@
 // Words of up to 64 bits: a bit, sums modulo 2, comparison and counts; below, the matrix map and messages.
-// Every public function is total, and every contract reads a word through `wordOf`. No other crate does bit arithmetic on a word.
+// Every public function but `block::copies` is total, and every contract reads a word through `wordOf`.
 pub mod block;
 pub mod count;
 pub mod matrix;

@@ -1,4 +1,4 @@
--- `stream::pass` writes what of its buffer has lines.
+-- `stream::pass` keeps to its buffers: what it writes is the part of the buffer that the lines fill.
 use mathlib.Core.Path.{sym}
 use native.Mathlib.Omega.{arith}
 use lib.Seq.{length-take-le}

@@ -8,13 +8,13 @@ use Rattle.stream.proofs.run.Statement.{statement}
 use Rattle.stream.proofs.run.Tie as tie
 
 abbrev Inv-loop : tie.InvT-loop
-Inv-loop piece₀ out₀ number₀ piece out number = (57600 ≡ length piece) × ((22456 ≡ length out) × (number ≤ 4294967295))
+Inv-loop piece₀ out₀ number₀ piece out number = (28800 ≡ length piece) × ((11256 ≡ length out) × (number ≤ 4294967295))
 
 abbrev μ-loop : tie.MeasureT-loop
 μ-loop piece₀ out₀ number₀ piece out number = 4294967295 - number
 
 loop-holds : tie.Need-loop-holds Inv-loop μ-loop
-loop-holds c = (sym (length-replicate {A = ℕ} 57600 0), (sym (length-replicate {A = ℕ} 22456 0), omega arith))
+loop-holds c = (sym (length-replicate {A = ℕ} 28800 0), (sym (length-replicate {A = ℕ} 11256 0), omega arith))
 
 slice-aggregate-pass : tie.Need-slice-aggregate-pass Inv-loop μ-loop
 slice-aggregate-pass c = c .before .loop .inv .0

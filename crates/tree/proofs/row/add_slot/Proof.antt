@@ -9,7 +9,7 @@ use mir.ValLaws.{toZ-ofZ}
 use Rattle.laws.specs.SortedRows.{rowOf, row-rising}
 use Rattle.word.proofs.Shifts.{one-shifted}
 use Rattle.tree.proofs.Building.{entry-small}
-use Rattle.tree.proofs.Mirrors.{row-mirrored, begins-mirrored}
+use Rattle.tree.proofs.Mirrors.{row-mirrored}
 use borrow.Author.Needs.{needs, sfits-of}
 use Rattle.tree.proofs.row.add_slot.Statement.{statement}
 use Rattle.tree.proofs.row.add_slot.Tie as tie
@@ -53,7 +53,7 @@ double-requires c κs =
       (
         (
           rw (s .pre .1 .1) (row-rising _ (s .args .t) (omega arith)),
-          begins-mirrored (s .args .from .now) (2 ^ (s .args .t)) _ (s .pre .1 .1) (row-mirrored _ (s .args .t) (omega arith)),
+          rw (s .pre .1 .1) (row-mirrored _ (s .args .t) (omega arith)),
         ),
         λ i l. omega (arith, entry-small _ _ (s .args .first) (s .args .t) (s .pre .0 .0) (s .pre .0 .1) (s .args .from .now) (s .pre .1 .1) i l, few),
       ),

@@ -4,7 +4,7 @@ use mathlib.Core.Path.{refl}
 use lib.ListN.{length-set}
 use native.Mathlib.Omega.{arith}
 use borrow.Author.Needs.{needs}
-use Rattle.tree.proofs.Merging.{Merging, merging-none, merging-turn, merging-all}
+use Rattle.tree.proofs.Merging.{Merging, merging-none, turn-fits, merging-turn, merging-all}
 use Rattle.tree.proofs.row.double.Statement.{statement}
 use Rattle.tree.proofs.row.double.Tie as tie
 
@@ -80,8 +80,9 @@ slice-write-to c = search needs
 sub-to : tie.Need-sub-to Inv-loop μ-loop
 sub-to c =
     let s = c .before .before .before .before .before .before .before .before .before in
-    let l = c .before .before .loop in
-    omega (arith, c .least .ensures, l .inv .first, s .pre .1 .0 .1 (l .a) (omega arith))
+    rw (c .least .ensures)
+    (turn-fits (s .args .from .now) (s .args .m) (s .args .zero) (s .args .one) (s .args .to .now) (s .pre .0 .0) (s .pre .0 .1) (s .pre .0 .2) (s .pre .1 .0 .0)
+    (s .pre .1 .0 .1) (c .before .before .loop .inv) (c .before .loop-test .taken))
 
 add-to-2 : tie.Need-add-to-2 Inv-loop μ-loop
 add-to-2 c = search needs
