@@ -15,7 +15,7 @@ pub record Encoded : Type 0 where
   pub d : ℕ
   pub x : ℕ
 
--- the information word and the codeword of a message
+-- "The information word d and codeword x" of a message
 abbrev pub encoded : ℕ → ℕ → ℕ → Encoded
 encoded n mask message = record { d = spread n mask message; x = codeword n (spread n mask message) }
 
@@ -47,7 +47,7 @@ newAnswer room n = answer (wrongSize n ∷ []) (start room n)
 unfoldable pub takeAnswer : Assembler → Reading → Answer (Unit {0})
 takeAnswer a reading = answer (wrongAssembler a ∷ noRoom a reading ∷ notFinite reading ∷ []) tt
 
--- the assembler that is handed back
+-- "takes readings, and hands back its new state"; on refusal "the assembler" stays "unchanged"
 unfoldable pub takeLeft : Assembler → Reading → Assembler
 takeLeft a reading = left (takeAnswer a reading) a (takeReading a reading)
 
@@ -55,7 +55,7 @@ takeLeft a reading = left (takeAnswer a reading) a (takeReading a reading)
 unfoldable pub giveAnswer : Assembler → List ℤ → Answer (Unit {0})
 giveAnswer a slice = answer (wrongAssembler a ∷ notFull a ∷ wrongLength (a .n) slice ∷ []) tt
 
--- the slice afterwards
+-- "When all N are filled it gives out the levels"; on refusal "lent buffers" stay "unchanged": the slice afterwards
 unfoldable pub giveLeft : Assembler → List ℤ → List ℤ
 giveLeft a slice = left (giveAnswer a slice) slice (givenOut a)
 
@@ -67,17 +67,17 @@ pub record Decoded : Type 0 where
   pub distance : ℕ
   pub visits : ℕ
 
--- a finished decoding whose word is d
+-- "message, d, x, distance and visits" where the word is d
 abbrev pub decodedAs : ℕ → ℕ → (ℕ → ℕ → ℕ) → ℕ → ℕ → Decoded
 decodedAs n mask cost visits d =
     record { message = gather n mask d; d = d; x = codeword n d; distance = wordDistance n cost d; visits = visits }
 
--- a finished decoding: the least word, and the visits of the walk
+-- "The answer is the permitted d of least distance": a finished decoding has the least word, and the visits of the walk
 unfoldable pub decoded : ℕ → List ℤ → ℕ → ℕ → Decoded
 decoded n levels mask folding =
     decodedAs n mask (levelCost levels) (walkVisits n mask (levelCost levels) folding) (leastWord n mask (levelCost levels))
 
--- 3 to 8: the part of the order that decoding and a record share
+-- "Decode: 1 to 6, then 7, 8." and "A record: 13, 1, 12, 3, 4, 5, 6, 7, 8.": the part 3 to 8 that both share
 unfoldable pub treeOrder : ℕ → List ℤ → ℕ → ℕ → ℕ → List (Option Refusal)
 treeOrder n levels mask folding allowance =
     wrongMask n mask ∷ wrongFolding n folding ∷ wideFolding folding ∷ outOfRange n levels ∷ noCandidate n mask folding

@@ -40,7 +40,7 @@ start room n = record { n = n; filled = 0; levels = replicate room (pos 0) }
 abbrev pub fillSlot : Assembler → ℤ → Assembler
 fillSlot a level = record { n = a .n; filled = suc (a .filled); levels = set (a .levels) (a .filled) level }
 
--- the next slots filled with the levels of a reading
+-- the next slots filled with the levels of a reading; one with a sample that has no level is refused, so `none` is never met
 unfoldable pub fillSlots : Assembler → List (Option ℤ) → Assembler
 fillSlots a [] = a
 fillSlots a (none ∷ rest) = fillSlots a rest

@@ -11,11 +11,12 @@ use Rattle.rules.specs.Below.{countBelow, listBelow}
 abbrev pub smallest : ℕ → ℕ → ℕ
 smallest folding i = i - bitAnd i folding
 
--- the number of an index's group, counted from 0 in rising order of the smallest index
+-- the number of an index's group, from 0 in rising order of the smallest index ("in falling order of their smallest index" they
+-- are decided)
 unfoldable pub groupNo : ℕ → ℕ → ℕ
 groupNo folding i = countBelow (smallest folding i) (λ j. eqb (smallest folding j) j)
 
--- the indices of a group, rising
+-- "Indices that agree outside the folding's bits make one group": the indices of group k, rising
 unfoldable pub group : ℕ → ℕ → ℕ → List ℕ
 group n folding k = listBelow (2 ^ n) (λ i. eqb (groupNo folding i) k)
 

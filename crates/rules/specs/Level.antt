@@ -27,11 +27,11 @@ limit = 1024
 abbrev pub inRange : ℤ → Bool
 inRange level = leb (natAbs level) limit
 
--- the received level of a slot
+-- "in a lent slice, slot i first to last": the received level of a slot
 abbrev pub levelAt : List ℤ → ℕ → ℤ
 levelAt levels i = getD levels i (pos 0)
 
--- how far a level is from the ideal level of a bit
+-- "level - ideal", as a distance
 abbrev pub gap : ℤ → ℕ → ℕ
 gap level b = natAbs (level -ℤ ideal b)
 
@@ -39,7 +39,7 @@ gap level b = natAbs (level -ℤ ideal b)
 unfoldable pub slotCost : ℤ → ℕ → ℕ
 slotCost level b = gap level b * gap level b
 
--- the cost of slot i at bit b under the received levels
+-- what slot i adds to "the sum over slots" at bit b, under the received levels
 abbrev pub levelCost : List ℤ → ℕ → ℕ → ℕ
 levelCost levels i b = slotCost (levelAt levels i) b
 
@@ -57,7 +57,7 @@ pub record Least (n mask : ℕ) (cost : ℕ → ℕ → ℕ) (d : ℕ) : Type 0 
   pub nearest : (e : ℕ) → permitted n mask e ≡ true → wordDistance n cost d ≤ wordDistance n cost e
   pub smallest : (e : ℕ) → permitted n mask e ≡ true → wordDistance n cost d ≡ wordDistance n cost e → d ≤ e
 
--- the best word so far, with its distance
+-- "no best word", or a best word with "its distance"
 pub data Best : Type 0 where
   nothing : Best
   best : ℕ → ℕ → Best
@@ -78,6 +78,6 @@ abbrev pub wordKept : Best → ℕ
 wordKept nothing = 0
 wordKept (best p d) = d
 
--- the least word, by listing every word of N bits
+-- "the permitted d of least distance; among equals, the smallest d": by listing every word of N bits in rising order
 unfoldable pub leastWord : ℕ → ℕ → (ℕ → ℕ → ℕ) → ℕ
 leastWord n mask cost = wordKept (bestBelow n mask cost (2 ^ (2 ^ n)))

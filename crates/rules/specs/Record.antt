@@ -35,7 +35,7 @@ signed16 v = cond (ltb v 32768) (pos v) (negℤ (pos (65536 - v)))
 abbrev pub slotLevel : List ℕ → ℕ → ℤ
 slotLevel bytes i = signed16 (numberAt bytes (16 + 2 * i) 2)
 
--- the fields of a record
+-- "byte 0 n, byte 1 folding", "allowance", "mask", "levels": the fields of a record
 pub record Fields : Type 0 where
   pub n : ℕ
   pub folding : ℕ
@@ -73,7 +73,7 @@ readAnswer bytes =
     ∷ wrongFolding (f .n) (f .folding) ∷ wideFolding (f .folding) ∷ [])
     f
 
--- the levels of the record's N slots
+-- the levels of the record's N slots; those "beyond N" are zero
 abbrev pub blockLevels : Fields → List ℤ
 blockLevels f = take (2 ^ (f .n)) (f .levels)
 

@@ -14,7 +14,7 @@ use Rattle.rules.specs.Folding.{group, groups}
 use Rattle.rules.specs.Walk.{fillings}
 use Rattle.rules.specs.Assembling.{Assembler, Reading, slotLevels, slotsNeeded, firstWithout}
 
--- a refusal: its number, and the slot, level or sample that it names
+-- a refusal: its number, and what it names ("the first slot is named", "the level is named", "0 or 1 names the first such sample")
 pub record Refusal : Type 0 where
   pub number : ℕ
   pub values : List ℕ
@@ -24,7 +24,7 @@ pub data Answer (A : Type 0) : Type 0 where
   refused : Refusal → Answer A
   done : A → Answer A
 
--- the first refusal of an order that is given; else the success
+-- "Orders.": the first refusal of an order that is given; else the success
 abbrev pub answer : {A : Type 0} → List (Option Refusal) → A → Answer A
 answer [] success = done success
 answer (none ∷ order) success = answer order success
@@ -49,7 +49,7 @@ refuseAt number (some value) = some (record { number = number; values = value �
 abbrev pub largest : ℕ
 largest = 6
 
--- n is not 1..6
+-- the test of "n is not 1..6"
 abbrev pub isWrongSize : ℕ → Bool
 isWrongSize n = ltb n 1 || ltb largest n
 
@@ -87,7 +87,8 @@ isEmpty [] = true
 isEmpty (x ∷ xs) = false
 
 -- 7: "a level of the tree has no candidate; the level is named". Levels count from 0 in the order in which they are decided,
--- so that level t decides the group numbered L - 1 - t. A list of fillings always has the filling 0, so this is never given.
+-- so that level t decides the group numbered L - 1 - t. A group has a candidate for each
+-- filling, and always the filling 0, so this is never given.
 abbrev pub noCandidate : ℕ → ℕ → ℕ → Option Refusal
 noCandidate n mask folding =
     refuseAt 7 (firstBelow (groups n folding) (λ t. isEmpty (fillings mask (group n folding (groups n folding - suc t)))))

@@ -110,6 +110,7 @@ abbrev allHold : List Row → Bool
 allHold [] = true
 allHold (r ∷ rs) = holds r && allHold rs
 
+-- "The starred rows are one table under one proved statement about the definitions"
 pub starred-rows-hold : allHold rows ≡ true
 unfolding rows decodesRight encodeAnswer decoded treeOrder decodeAnswer sumBelow countBelow allBelow firstBelow listBelow codeBit codeword permitted spread gather idealLevels slotCost distance bestBelow leastWord groupNo group fillings pattern branch candidate insert inOrder candidates visit walk walkOf nearestWhole unclipped levelOf ones onesIn
 starred-rows-hold = refl

@@ -7,7 +7,8 @@ use lib.IntN.{ℤ, pos, negsuc, negℤ}
 use lib.Ieee.{Float, nan, inf, fin, up, down, nearest}
 use Rattle.rules.specs.Level.{limit}
 
--- "the whole number nearest to" a / b, "an exact half going to the even neighbour"
+-- "the whole number nearest to" a / b, "an exact half going to the even neighbour": with q the whole quotient, `nearest q` is q
+-- where the remainder is below one half, q + 1 where it is above, and the even one of both where it is exactly one half
 unfoldable pub nearestWhole : ℕ → ℕ → ℕ
 nearestWhole a b = nearest (a / b) (compare (a % b * 2) b)
 
@@ -16,7 +17,8 @@ abbrev pub signed : Bool → ℕ → ℤ
 signed false m = pos m
 signed true m = negℤ (pos m)
 
--- "The level of sample s is the whole number nearest to 256·s": before clipping, for the sample ±m * 2 ^ e
+-- "The level of sample s is the whole number nearest to 256·s": before clipping, for the sample ±m * 2 ^ e, where 2 ^ e is the
+-- fraction of up e and down e
 unfoldable pub unclipped : Bool → ℕ → ℤ → ℤ
 unclipped s m e = signed s (nearestWhole (256 * m * up e) (down e))
 

@@ -23,15 +23,16 @@ decimalUpTo (suc most) v =
 abbrev pub decimal : ℕ → List ℕ
 decimal v = decimalUpTo (suc v) v
 
--- the lowest `count` hexadecimal digits of v, highest first
+-- "lower-case hex digits": the lowest `count` of v, highest first
 unfoldable pub hex : ℕ → ℕ → List ℕ
 hex zero v = []
 hex (suc count) v = hex count (v / 16) ++ (digit (v % 16) ∷ [])
 
--- a space, and the end of a line
+-- the space between the parts of a line
 abbrev pub space : List ℕ
 space = 32 ∷ []
 
+-- "a line each": its end
 abbrev pub lineEnd : List ℕ
 lineEnd = 10 ∷ []
 
@@ -69,9 +70,6 @@ abbrev pub mostRecords : ℕ
 mostRecords = 4294967295
 
 -- the text of bytes whose first record is numbered `number`: "A short last record gets its line; empty input prints nothing."
+-- From number 0 it is what `blocks` prints for the bytes of its standard input.
 unfoldable pub textFrom : ℕ → List ℕ → List ℕ
 textFrom number bytes = linesFrom number (recordsUpTo (mostRecords - number) bytes)
-
--- what `blocks` prints for the bytes of its standard input
-abbrev pub text : List ℕ → List ℕ
-text bytes = textFrom 0 bytes

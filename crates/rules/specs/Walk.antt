@@ -25,7 +25,7 @@ unfoldable pub branch : ℕ → (ℕ → ℕ → ℕ) → ℕ → List ℕ → �
 branch n cost d [] = 0
 branch n cost d (i ∷ is) = cost i (codeBit n d i) + branch n cost d is
 
--- a filling of a group, with its pattern and its branch distance
+-- "the candidates are the fillings": a filling of a group; "Each gives a pattern u of codeword bits" "and a branch distance"
 pub record Candidate : Type 0 where
   pub filling : ℕ
   pub pattern : ℕ
@@ -50,18 +50,18 @@ unfoldable pub inOrder : List Candidate → List Candidate
 inOrder [] = []
 inOrder (c ∷ cs) = insert c (inOrder cs)
 
--- the candidates of group k after the word d, in order
+-- "At a level, the candidates are the fillings of that group's unfrozen d bits": of group k after the word d, in order
 unfoldable pub candidates : ℕ → ℕ → (ℕ → ℕ → ℕ) → ℕ → ℕ → ℕ → List Candidate
 candidates n mask cost folding k d =
     inOrder (map (candidate n cost d (group n folding k)) (fillings mask (group n folding k)))
 
--- What a walk keeps, when it leaves a node, and how it keeps a word.
+-- what a walk keeps, when it must "leave this node with its remaining candidates", and how it keeps a word
 pub record Keeping : Type 1 where
   pub Kept : Type 0
   pub leaves : Kept → ℕ → Bool
   pub keeps : ℕ → ℕ → Kept → Kept
 
--- what the walk has kept, and its visits so far
+-- what the walk has kept so far, and how often it did "count one visit"
 pub record State (K : Keeping) : Type 0 where
   pub kept : K .Kept
   pub visits : ℕ
@@ -89,7 +89,7 @@ abbrev pub isFarther : Best → ℕ → Bool
 isFarther nothing q = false
 isFarther (best p d) q = ltb p q
 
--- what document 01's walk keeps: the best word
+-- what document 01's walk keeps: the "best word"
 abbrev pub keepBest : Keeping
 keepBest = record { Kept = Best; leaves = isFarther; keeps = keep }
 
@@ -98,6 +98,6 @@ unfoldable pub walkOf : ℕ → ℕ → (ℕ → ℕ → ℕ) → ℕ → State 
 walkOf n mask cost folding =
     walk keepBest (candidates n mask cost folding) (groups n folding) 0 0 (record { kept = nothing; visits = 0 })
 
--- the walk's total of visits
+-- "the walk's total" of visits
 abbrev pub walkVisits : ℕ → ℕ → (ℕ → ℕ → ℕ) → ℕ → ℕ
 walkVisits n mask cost folding = walkOf n mask cost folding .visits
