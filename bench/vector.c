@@ -1,6 +1,7 @@
-/* plain - the program `blocks` of document 01:  plain < records > lines
+/* vector - the program `blocks` of document 01, beyond that document's form:  vector < records > lines
  *
- * What makes it fast:
+ * It does the same job as peer.c with vectors by hand, to show how far a decoder can go.  It gains
+ * most where rows are long, that is for foldings of two and three connection sets.
  * - Slots are renumbered so that each group's bits lie side by side in a word: a group is a shift
  *   away, and one multiplication carries a choice on to all the groups it reaches.
  * - A word is told by its flips, the slots where it leaves the nearest word (the nearer bit in each
@@ -12,8 +13,7 @@
  *   so that only the lower half of each merge is done.
  * - Rows are dealt into a list for each setting of the frozen bits, so that the walk meets nothing
  *   but candidates; only if the walk needs it, and only up to the keys that can still pass.
- * This is peer.c with the plainest walk: every visit is made, one by one, by a recursion that
- * goes down a single level.  It shows what counting visits instead of making them is worth. */
+ * Every visit is still made, one by one. */
 #include <stdint.h>
 #include <stdio.h>
 #include <string.h>
@@ -48,8 +48,10 @@ struct level {
     int32_t allow;              /* what keys may lie above best */
     const int32_t *row;         /* the sorted row: every fourth number */
     int32_t nearest, free;      /* pattern without flips; how many indices are not frozen */
-    int32_t place, cost;        /* on the first way down: place in the row, cost and word */
-    uint64_t d;                 /*   before this level */
+    int32_t place;              /* on the first way down: place in the row */
+    int32_t cost;               /* the node that the walk is in: cost and word on arrival, */
+    uint64_t d;
+    const int32_t *next;        /*   and its second candidate */
 };
 static struct level level[64], *last;   /* in the order of the walk; the last in use */
 static quad rows[512];
@@ -262,10 +264,11 @@ static uint64_t build_rows(const int16_t *in, int32_t *floor)
         for (int e = 0; e < 4; e++)
             level[l + e].nearest = key[e] & 0xff;
     }
-    for (struct level *v = last; v >= level; v--) {
+    for (int l = levels - 1; l >= 0; l--) {
+        struct level *v = &level[l];
         /* partial distance > best distance means: cost > best cost + floor of the levels below / 1024 */
         v->allow = sum >> 10 << 8 | 0xff;
-        sum += least[v - level];
+        sum += least[l];
         nearest |= (uint64_t)v->nearest << v->shift;
     }
     *floor = sum;
@@ -296,26 +299,62 @@ INLINE int start_at(const struct level *v, uint64_t d)
     return v->start[(uint8_t)(d >> v->shift)];
 }
 
-/* A node from candidate c on; there is a best word.  d is the word without flips from here on. */
+/* The node's list.  If nothing is frozen there is but one, and no need to wait for d. */
+INLINE const int32_t *list_at(const struct level *v, uint64_t d)
+{
+    return v->free == 1 << k ? v->lists : v->lists + 2 * start_at(v, d);
+}
+
+static void keep(int32_t cost, uint64_t d)
+{
+    d = by_slot(d);
+    if (cost < best || d < best_d) {
+        best = cost;
+        best_d = d;
+    }
+}
+
+/* A node from candidate c on; there is a best word.  d is the word without flips from here on.
+ * The way down to first candidates is a loop, the other candidates are walked by recursion. */
 static void walk(struct level *v, const int32_t *c, int32_t cost, uint64_t d)
 {
-    for (; *c != END; c++) {
-        if (++visits > allowance)
-            best = -END;        /* so that nothing passes any more */
-        if (cost + *c > best + v->allow)
-            return;
-        int32_t total = cost + (*c & COST);
-        uint64_t word = d ^ (uint64_t)(*c & 0xff) * v->spread;
-        if (v < last) {
-            walk(v + 1, v[1].lists + 2 * start_at(v + 1, word), total, word);
-        } else {
-            word = by_slot(word);
-            if (total < best || word < best_d) {
-                best = total;
-                best_d = word;
+    struct level *const top = v;
+    int32_t limit = best;
+    int64_t count = 1;
+    for (; cost + *c <= limit + v->allow; count++) {
+        v->next = c + 1;
+        v->cost = cost;
+        v->d = d;
+        cost += *c & COST;
+        d ^= (uint64_t)(*c & 0xff) * v->spread;
+        if (v++ == last) {
+            keep(cost, d);
+            limit = best;
+            break;
+        }
+        c = list_at(v, d);
+    }
+    while (v > top) {
+        v--;
+        for (c = v->next; *c != END; c++) {
+            count++;
+            if (v->cost + *c > limit + v->allow)
+                break;
+            cost = v->cost + (*c & COST);
+            d = v->d ^ (uint64_t)(*c & 0xff) * v->spread;
+            if (v == last) {
+                keep(cost, d);
+            } else {
+                visits += count;
+                count = 0;
+                if (visits > allowance)
+                    best = -END;        /* so that nothing passes any more */
+                walk(v + 1, list_at(v + 1, d), cost, d);
             }
+            limit = best;
         }
     }
+    visits += count;
 }
 
 /* The whole walk: the first way down finds a word, then the nodes on it, the last one first. */
@@ -339,7 +378,8 @@ static void search(uint64_t d)
     best_d = by_slot(d);
     visits = levels;
     built = last + 1;
-    for (struct level *v = last; v >= level; v--) {
+    for (int l = levels - 1; l >= 0; l--) {
+        struct level *v = &level[l];
         if (v->free == 0)
             continue;
         /* there is a second candidate; does it pass? */
