@@ -107,9 +107,6 @@ module _ {table : List (List ℕ)} {index covered bytes : List ℕ} {tree : Tree
       rw (seat-unseat (tree .n) (tree .folding) (given .seated .fits) d (given .begun .word), ← given .begun .code)
 
   module _ (j : ℕ) (h : j < 2 ^ (tree .size)) where
-    entry : ℕ
-    entry = entryAt table (tree .size) k j
-
     -- the pattern's own bits
     abbrev pub own : ℕ
     own = bitXor (entryAt table (tree .size) k j % 256) (blockOf (tree .size) k x)

@@ -94,9 +94,6 @@ module _ {rows : List (List ℕ)} {index covered bytes : List ℕ} {tree : Tree}
     pub below : j < 2 ^ (tree .size)
     below = rw (← t .counted) h
 
-    entry : ℕ
-    entry = entryAt rows (tree .size) k j
-
     -- what the code read of the entry
     pub record Read (e o f : ℕ) : Type 0 where
       pub entry-is : e ≡ entryAt rows (tree .size) k j
