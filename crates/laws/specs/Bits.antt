@@ -1,8 +1,9 @@
--- Laws of `bit` by index: numbers with equal bits are equal, and what each operation does to the bits.
+-- Laws of `bit` by index: numbers with equal bits are equal, what each operation does to the bits, and the bits of a word that a
+-- test picks.
 use Prim.Native.Nat.{ℕ, zero, suc, _+_, _*_, _/_, _%_, _^_, _≤_, _<_, min}
 use mathlib.Core.Path.{_≡_, refl, sym, ap, _∙_}
 use mathlib.Core.Logic.{_≢_}
-use mathlib.Core.Bool.{true, _&&_}
+use mathlib.Core.Bool.{Bool, true, false, _&&_, cond}
 use native.Mathlib.Nat.{add-comm, le-dest, div-one, zero-div, div-eq-of-lt, div-self, mod-eq-of-lt, le-of-suc-le-suc, mod-self, lt-suc-self, one-mul, mod-lt, two-pow-succ, mul-le-mul-right, not-suc-le-zero}
 use native.Mathlib.Numerals.{one-add}
 use native.Mathlib.Decide.{ℕ-discrete, decLt}
@@ -162,3 +163,41 @@ covers-antisym i j p q = omega (arith, covers-le i j p, covers-le j i q)
 pub covers-block : (k a b r s : ℕ) → r < 2 ^ k → s < 2 ^ k
     → covers (a * 2 ^ k + r) (b * 2 ^ k + s) ≡ (covers a b && covers r s)
 covers-block k a b r s hr hs = rw (and-block k a b r s hr hs) (eqb-block k (bitAnd a b) a (bitAnd r s) r (and-lt k r s hr hs) hr)
+
+-- a number with no one at m or beyond is below 2 ^ m
+pub small-of-bits : (m w : ℕ) → ((i : ℕ) → m ≤ i → bit w i ≡ 0) → w < 2 ^ m
+small-of-bits m w h = rw (bit-ext {a = w} {b = w % 2 ^ m} (λ i. go i (decLt i m))) (mod-lt w (pow-pos m))
+  where
+    go : (i : ℕ) → Dec (i < m) → bit w i ≡ bit (w % 2 ^ m) i
+    go i (yes l) = sym (bit-mod w m i l)
+    go i (no g) = h i (omega arith) ∙ sym (bit-mod-beyond w m i (omega arith))
+
+-- the bits of w below m that pass a test, in their places
+unfoldable pub picked : ℕ → (ℕ → Bool) → ℕ → ℕ
+picked m test w = sumBelow m (λ i. cond (test i) (bit w i) 0 * 2 ^ i)
+
+picked-bits : (test : ℕ → Bool) (w i : ℕ) → cond (test i) (bit w i) 0 < 2
+picked-bits test w i = go (test i)
+  where
+    go : (t : Bool) → cond t (bit w i) 0 < 2
+    go true = bit-lt-two w i
+    go false = omega arith
+
+-- a bit that passes is there
+pub picked-in : (m : ℕ) (test : ℕ → Bool) (w i : ℕ) → i < m → test i ≡ true → bit (picked m test w) i ≡ bit w i
+unfolding picked
+picked-in m test w i l t = word-bit m _ (λ j _. picked-bits test w j) i l ∙ rw t
+
+-- no other is
+pub picked-out : (m : ℕ) (test : ℕ → Bool) (w i : ℕ) → test i ≡ false → bit (picked m test w) i ≡ 0
+unfolding picked
+picked-out m test w i t = go (decLt i m)
+  where
+    go : Dec (i < m) → bit (picked m test w) i ≡ 0
+    go (yes l) = word-bit m _ (λ j _. picked-bits test w j) i l ∙ rw t
+    go (no g) = bit-beyond (word-lt m _ (λ j _. picked-bits test w j)) (omega arith)
+
+-- nor any at m or beyond
+pub picked-beyond : (m : ℕ) (test : ℕ → Bool) (w i : ℕ) → m ≤ i → bit (picked m test w) i ≡ 0
+unfolding picked
+picked-beyond m test w i l = bit-beyond (word-lt m _ (λ j _. picked-bits test w j)) l

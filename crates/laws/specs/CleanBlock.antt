@@ -1,4 +1,4 @@
--- A clean block (law 8): where one permitted word alone costs nothing, the walk takes a visit for each group and one more
+-- A clean block: where one permitted word alone costs nothing, the walk takes a visit for each group and one more
 -- for each group with an unfrozen index. Over any such cost, then for the ideal levels.
 use Prim.Native.Nat.{ℕ, zero, suc, _+_, _*_, _^_, _<_}
 use mathlib.Core.Path.{_≡_, refl, sym, _∙_, ap, ap₂}

@@ -1,7 +1,6 @@
 pub mod Answers
 pub mod Sums
 pub mod Bits
-pub mod SumsMore
 pub mod SortedLists
 pub mod SortedRows
 pub mod BranchAndBound
@@ -20,7 +19,6 @@ pub mod ReedMuller
 pub mod Weight
 pub mod Fillings
 pub mod Candidates
-pub mod BitsMore
 pub mod Branches
 pub mod Completions
 pub mod LeastByWalk
