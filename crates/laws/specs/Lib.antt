@@ -48,4 +48,5 @@ pub mod SeatedDown
 pub mod SeatedFillings
 pub mod SeatedWalk
 pub mod FillingNumber
+pub mod Orders
 pub mod Records
