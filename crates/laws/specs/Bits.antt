@@ -8,7 +8,7 @@ use native.Mathlib.Nat.{add-comm, le-dest, div-one, zero-div, div-eq-of-lt, div-
 use native.Mathlib.Numerals.{one-add}
 use native.Mathlib.Decide.{ℕ-discrete, decLt}
 use native.Mathlib.Omega.{arith}
-use lib.Pow.{pow-pos, pow-mono, pow-lt, shr-shr, field, mod-mod-pow, high, low}
+use lib.Pow.{pow-pos, pow-mono, pow-lt, shr-shr, shl-exact, field, mod-mod-pow, high, low}
 use lib.Bits.{bitAnd, bitXor, and-shr, xor-shr, and-step, xor-add-and, xor-disjoint, and-self, and-le-r, and-lt, and-block}
 use borrow.Author.Tests.{eqb-true, eq-eqb, ne-eqb}
 use lib.Dec.{eqb}
@@ -22,6 +22,10 @@ bit-lt-two w i = omega arith
 -- 0 has no one bit
 pub bit-zero : (i : ℕ) → bit 0 i ≡ 0
 bit-zero i = rw (zero-div (2 ^ i))
+
+-- a one shifted up within w bits, as the machine shifts it
+pub power-shifted : (w i : ℕ) → i < w → 1 * 2 ^ i % 2 ^ w ≡ 2 ^ i
+power-shifted w i fits = shl-exact 1 i w (omega arith) (omega arith) ∙ one-mul (2 ^ i)
 
 -- the bits of w shifted down
 pub bit-div : (w k i : ℕ) → bit (w / 2 ^ k) i ≡ bit w (k + i)
@@ -58,7 +62,8 @@ bit-low hi k {lo} h i l = sym (bit-mod (hi * 2 ^ k + lo) k i l) ∙ ap (λ (x : 
 pub bit-high : (hi k : ℕ) {lo : ℕ} → lo < 2 ^ k → (i : ℕ) → bit (hi * 2 ^ k + lo) (k + i) ≡ bit hi i
 bit-high hi k {lo} h i = sym (bit-div (hi * 2 ^ k + lo) k i) ∙ ap (λ (x : ℕ). bit x i) (high hi k h)
 
-bit-half : (w i : ℕ) → bit (w / 2) i ≡ bit w (suc i)
+-- the bits of a half
+pub bit-half : (w i : ℕ) → bit (w / 2) i ≡ bit w (suc i)
 bit-half w i = bit-div w 1 i ∙ ap (bit w) (one-add i)
 
 lt-two-pow : (n : ℕ) → n < 2 ^ n
@@ -107,6 +112,14 @@ pub bit-add : (a b : ℕ) → ((k : ℕ) → bit a k + bit b k ≤ 1) → (i : �
 bit-add a b h i =
     let apart : bitAnd a b ≡ 0 = bit-ext (λ k. bit-and a b k ∙ (omega (arith, h k)) ∙ sym (bit-zero k)) in
     rw (← xor-disjoint a b apart, bit-xor a b i) (omega (arith, h i))
+
+-- a power of two added where its bit is 0
+pub bit-put : (w k : ℕ) → bit w k ≡ 0 → (i : ℕ) → bit (w + 2 ^ k) i ≡ bit w i + bit (2 ^ k) i
+bit-put w k z = bit-add w (2 ^ k) (λ i. at i (ℕ-discrete i k))
+  where
+    at : (i : ℕ) → Dec (i ≡ k) → bit w i + bit (2 ^ k) i ≤ 1
+    at i (yes e) = rw e (omega (arith, bit-pow-same k))
+    at i (no ne) = omega (arith, bit-pow-other k i ne, bit-lt-two w i)
 
 -- the word of m given bits is below 2 ^ m
 pub word-lt : (m : ℕ) (b : ℕ → ℕ) → ((i : ℕ) → i < m → b i < 2) → sumBelow m (λ i. b i * 2 ^ i) < 2 ^ m
