@@ -24,7 +24,7 @@ use Rattle.laws.specs.Sums.{none-at, none-of}
 use Rattle.laws.specs.Least.{leastWord-least, least-unique}
 use Rattle.laws.specs.Sizes.{or-left, size-le}
 use Rattle.laws.specs.Orders.{passed, not-refused, not-refused-at}
-use Rattle.laws.specs.FillingNumber.{unfrozenIn, fillings-number}
+use Rattle.laws.specs.FillingCount.{unfrozenIn, fillings-number}
 
 -- what refusals 1 to 6 let pass
 pub record Accepted (n : ℕ) (levels : List ℤ) (mask folding : ℕ) : Type 0 where
