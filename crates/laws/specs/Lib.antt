@@ -1,6 +1,7 @@
 pub mod Answers
 pub mod Sums
 pub mod Bits
+pub mod Apart
 pub mod SortedLists
 pub mod SortedRows
 pub mod BranchAndBound
