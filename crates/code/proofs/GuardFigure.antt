@@ -3,27 +3,23 @@
 use Prim.Native.Nat.{ℕ}
 use mathlib.Core.Path.{_≡_, sym, ap, _∙_}
 use mathlib.Core.Option.{Option, none, some}
-use mathlib.Core.List.{List, [], _∷_}
+use mathlib.Core.List.{[], _∷_}
 use Rattle.rules.specs.Word.{messageBits}
 use Rattle.rules.specs.Guard.{guardOf}
-use Rattle.rules.specs.Refusals.{Refusal, done, answer, wrongSize, wrongMask}
+use Rattle.rules.specs.Refusals.{done, wrongSize, wrongMask}
 use Rattle.rules.specs.Answers.{guardAnswer}
 use Rattle.laws.specs.Answers.{Shown}
+use Rattle.laws.specs.Orders.{passed}
 use Rattle.laws.specs.LeastBelow.{no-guard}
 use Rattle.word.specs.Words.{wordOf}
 use Rattle.code.specs.Reading.{guardedOf}
 use Rattle.code.specs.declared.Guard as g
 use Rattle.code.proofs.Code.guard.Reads as guard
 
--- an answer that is a success is the one that the order leads to
-is-success : {A : Type 0} (order : List (Option Refusal)) (success given : A) → done given ≡ answer order success → success ≡ given
-is-success [] success given e = cc
-is-success (none ∷ order) success given e = is-success order success given e
-is-success (some r ∷ order) success given e = cc
-
+-- an answer that is a success is the guard
 guard-answered : (n mask : ℕ) (given : Option ℕ) → done given ≡ guardAnswer n mask → guardOf n mask ≡ given
 unfolding guardAnswer
-guard-answered n mask given e = is-success (wrongSize n ∷ wrongMask n mask ∷ []) (guardOf n mask) given e
+guard-answered n mask given e = passed (wrongSize n ∷ wrongMask n mask ∷ []) (guardOf n mask) given (sym e) .1
 
 -- a figure is the guard of the mask
 pub guard-figure : Shown guard.Learnt (λ κs a r. (figure : ℕ) → r ≡ g.the-variants.Guard figure

@@ -3,19 +3,13 @@ use Prim.Native.Nat.{ℕ, _^_}
 use mathlib.Core.Path.{_≡_, sym, ap}
 use mathlib.Core.Bool.{true, false}
 use mathlib.Core.List.{List, [], _∷_}
-use mathlib.Core.Option.{Option, none, some}
 use lib.IntN.{ℤ}
 use lib.ListN.{length}
 use borrow.Author.Tests.{eq-eqb, ne-eqb}
 use Rattle.rules.specs.Level.{idealLevels}
-use Rattle.rules.specs.Refusals.{Refusal, refused, done, answer, isWrongSize, wrongSize, wrongLength, wrongMask, wrongMessage}
+use Rattle.rules.specs.Refusals.{Refusal, refused, done, isWrongSize, wrongSize, wrongLength, wrongMask, wrongMessage}
 use Rattle.rules.specs.Answers.{Encoded, encoded, encodeAnswer, encodeLevelsAnswer, encodeLevelsLeft}
-
--- an answer that is a success is the one that the order leads to
-answer-done : {A : Type 0} (order : List (Option Refusal)) (success given : A) → done given ≡ answer order success → given ≡ success
-answer-done [] success given e = cc
-answer-done (none ∷ order) success given e = answer-done order success given e
-answer-done (some r ∷ order) success given e = cc
+use Rattle.laws.specs.Orders.{passed}
 
 module _ (n : ℕ) (slice : List ℤ) (mask message : ℕ) where
   pub levels-size : isWrongSize n ≡ true → refused (record { number = 1; values = [] }) ≡ encodeLevelsAnswer n slice mask message
@@ -47,6 +41,6 @@ module _ (n : ℕ) (slice : List ℤ) (mask message : ℕ) where
     e,
     rw (sym e)
         (ap (λ (w : Encoded). idealLevels n (w .x))
-        (answer-done (wrongSize n ∷ wrongLength n slice ∷ wrongMask n mask ∷ wrongMessage n mask message ∷ []) (encoded n mask message)
-        (record { d = d; x = x }) e)),
+        (sym (passed (wrongSize n ∷ wrongLength n slice ∷ wrongMask n mask ∷ wrongMessage n mask message ∷ []) (encoded n mask message)
+        (record { d = d; x = x }) (sym e) .1))),
   )

@@ -1,4 +1,4 @@
--- The allowance (law 6, last part), over any keeping and any tree: a walk that stops where the next visit would pass the
+-- The allowance, over any keeping and any tree: a walk that stops where the next visit would pass the
 -- allowance finishes exactly when the whole walk's total is at most the allowance, with the same state.
 use Prim.Native.Nat.{ℕ, zero, suc, _+_, _≤_, _<_}
 use mathlib.Core.Path.{_≡_, refl, sym, _∙_}

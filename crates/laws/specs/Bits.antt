@@ -1,13 +1,14 @@
--- Laws of `bit` by index: numbers with equal bits are equal, and what each operation does to the bits.
+-- Laws of `bit` by index: numbers with equal bits are equal, what each operation does to the bits, and the bits of a word that a
+-- test picks.
 use Prim.Native.Nat.{ℕ, zero, suc, _+_, _*_, _/_, _%_, _^_, _≤_, _<_, min}
 use mathlib.Core.Path.{_≡_, refl, sym, ap, _∙_}
 use mathlib.Core.Logic.{_≢_}
-use mathlib.Core.Bool.{true, _&&_}
+use mathlib.Core.Bool.{Bool, true, false, _&&_, cond}
 use native.Mathlib.Nat.{add-comm, le-dest, div-one, zero-div, div-eq-of-lt, div-self, mod-eq-of-lt, le-of-suc-le-suc, mod-self, lt-suc-self, one-mul, mod-lt, two-pow-succ, mul-le-mul-right, not-suc-le-zero}
 use native.Mathlib.Numerals.{one-add}
 use native.Mathlib.Decide.{ℕ-discrete, decLt}
 use native.Mathlib.Omega.{arith}
-use lib.Pow.{pow-pos, pow-mono, pow-lt, shr-shr, field, mod-mod-pow, high, low}
+use lib.Pow.{pow-pos, pow-mono, pow-lt, shr-shr, shl-exact, field, mod-mod-pow, high, low}
 use lib.Bits.{bitAnd, bitXor, and-shr, xor-shr, and-step, xor-add-and, xor-disjoint, and-self, and-le-r, and-lt, and-block}
 use borrow.Author.Tests.{eqb-true, eq-eqb, ne-eqb}
 use lib.Dec.{eqb}
@@ -21,6 +22,10 @@ bit-lt-two w i = omega arith
 -- 0 has no one bit
 pub bit-zero : (i : ℕ) → bit 0 i ≡ 0
 bit-zero i = rw (zero-div (2 ^ i))
+
+-- a one shifted up within w bits, as the machine shifts it
+pub power-shifted : (w i : ℕ) → i < w → 1 * 2 ^ i % 2 ^ w ≡ 2 ^ i
+power-shifted w i fits = shl-exact 1 i w (omega arith) (omega arith) ∙ one-mul (2 ^ i)
 
 -- the bits of w shifted down
 pub bit-div : (w k i : ℕ) → bit (w / 2 ^ k) i ≡ bit w (k + i)
@@ -57,7 +62,8 @@ bit-low hi k {lo} h i l = sym (bit-mod (hi * 2 ^ k + lo) k i l) ∙ ap (λ (x : 
 pub bit-high : (hi k : ℕ) {lo : ℕ} → lo < 2 ^ k → (i : ℕ) → bit (hi * 2 ^ k + lo) (k + i) ≡ bit hi i
 bit-high hi k {lo} h i = sym (bit-div (hi * 2 ^ k + lo) k i) ∙ ap (λ (x : ℕ). bit x i) (high hi k h)
 
-bit-half : (w i : ℕ) → bit (w / 2) i ≡ bit w (suc i)
+-- the bits of a half
+pub bit-half : (w i : ℕ) → bit (w / 2) i ≡ bit w (suc i)
 bit-half w i = bit-div w 1 i ∙ ap (bit w) (one-add i)
 
 lt-two-pow : (n : ℕ) → n < 2 ^ n
@@ -106,6 +112,14 @@ pub bit-add : (a b : ℕ) → ((k : ℕ) → bit a k + bit b k ≤ 1) → (i : �
 bit-add a b h i =
     let apart : bitAnd a b ≡ 0 = bit-ext (λ k. bit-and a b k ∙ (omega (arith, h k)) ∙ sym (bit-zero k)) in
     rw (← xor-disjoint a b apart, bit-xor a b i) (omega (arith, h i))
+
+-- a power of two added where its bit is 0
+pub bit-put : (w k : ℕ) → bit w k ≡ 0 → (i : ℕ) → bit (w + 2 ^ k) i ≡ bit w i + bit (2 ^ k) i
+bit-put w k z = bit-add w (2 ^ k) (λ i. at i (ℕ-discrete i k))
+  where
+    at : (i : ℕ) → Dec (i ≡ k) → bit w i + bit (2 ^ k) i ≤ 1
+    at i (yes e) = rw e (omega (arith, bit-pow-same k))
+    at i (no ne) = omega (arith, bit-pow-other k i ne, bit-lt-two w i)
 
 -- the word of m given bits is below 2 ^ m
 pub word-lt : (m : ℕ) (b : ℕ → ℕ) → ((i : ℕ) → i < m → b i < 2) → sumBelow m (λ i. b i * 2 ^ i) < 2 ^ m
@@ -162,3 +176,41 @@ covers-antisym i j p q = omega (arith, covers-le i j p, covers-le j i q)
 pub covers-block : (k a b r s : ℕ) → r < 2 ^ k → s < 2 ^ k
     → covers (a * 2 ^ k + r) (b * 2 ^ k + s) ≡ (covers a b && covers r s)
 covers-block k a b r s hr hs = rw (and-block k a b r s hr hs) (eqb-block k (bitAnd a b) a (bitAnd r s) r (and-lt k r s hr hs) hr)
+
+-- a number with no one at m or beyond is below 2 ^ m
+pub small-of-bits : (m w : ℕ) → ((i : ℕ) → m ≤ i → bit w i ≡ 0) → w < 2 ^ m
+small-of-bits m w h = rw (bit-ext {a = w} {b = w % 2 ^ m} (λ i. go i (decLt i m))) (mod-lt w (pow-pos m))
+  where
+    go : (i : ℕ) → Dec (i < m) → bit w i ≡ bit (w % 2 ^ m) i
+    go i (yes l) = sym (bit-mod w m i l)
+    go i (no g) = h i (omega arith) ∙ sym (bit-mod-beyond w m i (omega arith))
+
+-- the bits of w below m that pass a test, in their places
+unfoldable pub picked : ℕ → (ℕ → Bool) → ℕ → ℕ
+picked m test w = sumBelow m (λ i. cond (test i) (bit w i) 0 * 2 ^ i)
+
+picked-bits : (test : ℕ → Bool) (w i : ℕ) → cond (test i) (bit w i) 0 < 2
+picked-bits test w i = go (test i)
+  where
+    go : (t : Bool) → cond t (bit w i) 0 < 2
+    go true = bit-lt-two w i
+    go false = omega arith
+
+-- a bit that passes is there
+pub picked-in : (m : ℕ) (test : ℕ → Bool) (w i : ℕ) → i < m → test i ≡ true → bit (picked m test w) i ≡ bit w i
+unfolding picked
+picked-in m test w i l t = word-bit m _ (λ j _. picked-bits test w j) i l ∙ rw t
+
+-- no other is
+pub picked-out : (m : ℕ) (test : ℕ → Bool) (w i : ℕ) → test i ≡ false → bit (picked m test w) i ≡ 0
+unfolding picked
+picked-out m test w i t = go (decLt i m)
+  where
+    go : Dec (i < m) → bit (picked m test w) i ≡ 0
+    go (yes l) = word-bit m _ (λ j _. picked-bits test w j) i l ∙ rw t
+    go (no g) = bit-beyond (word-lt m _ (λ j _. picked-bits test w j)) (omega arith)
+
+-- nor any at m or beyond
+pub picked-beyond : (m : ℕ) (test : ℕ → Bool) (w i : ℕ) → m ≤ i → bit (picked m test w) i ≡ 0
+unfolding picked
+picked-beyond m test w i l = bit-beyond (word-lt m _ (λ j _. picked-bits test w j)) l

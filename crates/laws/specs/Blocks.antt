@@ -1,6 +1,6 @@
 -- The matrix map by blocks of 2 ^ f neighbouring bits: the codeword of one block stands at each block that the block's
 -- number covers, and a block's codeword bits are final once it is added to the blocks above it.
-use Prim.Native.Nat.{ℕ, zero, suc, _+_, _-_, _*_, _/_, _%_, _^_, _≤_, _<_, zero-le, min}
+use Prim.Native.Nat.{ℕ, zero, suc, _+_, _-_, _*_, _/_, _%_, _^_, _≤_, _<_, min}
 use mathlib.Core.Path.{_≡_, refl, sym, ap, ap₂, _∙_}
 use mathlib.Core.Logic.{_≢_}
 use mathlib.Core.Bool.{Bool, true, false, _&&_, cond}
@@ -14,7 +14,7 @@ use Rattle.rules.specs.Below.{sumBelow}
 use Rattle.rules.specs.Word.{bit, covers, codeBit, codeword}
 use Rattle.laws.specs.Sums.{sum-cong, sum-zero, sum-split, sum-mul, sum-single}
 use Rattle.laws.specs.Bits.{bit-zero, bit-beyond, bit-low, bit-high, bit-mod, bit-div, bit-and, bit-xor, bit-ext, covers-refl, covers-block}
-use Rattle.laws.specs.Matrix.{codeword-lt, codeword-bit, code-bit-xor, codeword-xor, codeword-longer}
+use Rattle.laws.specs.Matrix.{codeword-lt, codeword-bit, code-bit-xor, codeword-xor, codeword-one}
 
 -- a sum block by block
 sum-blocks : (L s : ℕ) (g : ℕ → ℕ) → sumBelow (L * s) g ≡ sumBelow L (λ a. sumBelow s (λ r. g (a * s + r)))
@@ -45,10 +45,6 @@ block-other s k v b t hv ht n = go (decLt b k)
     go : Dec (b < k) → bit (v * 2 ^ (k * s)) (b * s + t) ≡ 0
     go (yes l) = block-below s k v (b * s + t) (digits-lt l ht)
     go (no g) = block-above s k v (b * s + t) hv (omega (arith, mul-le-mul-right {m = suc k} {n = b} s (omega arith)))
-
-codeword-one : (f : ℕ) → codeword f 1 ≡ 1
-unfolding codeword codeBit sumBelow
-codeword-one f = codeword-longer 0 f 1 zero-le (omega arith)
 
 module _ (n f k : ℕ) (fits : f ≤ n) (hk : k < 2 ^ (n - f)) where
   all-blocks : 2 ^ n ≡ 2 ^ (n - f) * 2 ^ f

@@ -1,4 +1,4 @@
--- Branch and bound (law 6), over any tree of candidates in order of branch and any starting state: the walk misses no
+-- Branch and bound, over any tree of candidates in order of branch and any starting state: the walk misses no
 -- leaf, keeps only leaves, and its visits only grow. First over any keeping, then for the keeping of document 01.
 use Prim.Native.Nat.{ℕ, zero, suc, _+_, _≤_}
 use mathlib.Core.Path.{_≡_, refl, sym}

@@ -1,4 +1,4 @@
--- Branches add up to the distance (law 7): the cost that is left with k levels left is a sum over the slots of the groups
+-- Branches add up to the distance: the cost that is left with k levels left is a sum over the slots of the groups
 -- below k, one branch more at each level, and the whole distance at the first.
 use Prim.Native.Nat.{ℕ, zero, suc, _+_, _^_, _<_}
 use mathlib.Core.Path.{_≡_, refl, sym, _∙_, ap, ap₂}

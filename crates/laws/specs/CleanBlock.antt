@@ -1,4 +1,4 @@
--- A clean block (law 8): where one permitted word alone costs nothing, the walk takes a visit for each group and one more
+-- A clean block: where one permitted word alone costs nothing, the walk takes a visit for each group and one more
 -- for each group with an unfrozen index. Over any such cost, then for the ideal levels.
 use Prim.Native.Nat.{ℕ, zero, suc, _+_, _*_, _^_, _<_}
 use mathlib.Core.Path.{_≡_, refl, sym, _∙_, ap, ap₂}
@@ -17,7 +17,7 @@ use Rattle.rules.specs.Level.{nothing, best, ideal, slotCost, levelCost, idealL
 use Rattle.rules.specs.Folding.{group, groups}
 use Rattle.rules.specs.Walk.{Candidate, pattern, branch, candidate, candidates, keepBest, State, visit, walk, walkOf, walkVisits}
 use Rattle.laws.specs.Each.{each-at}
-use Rattle.laws.specs.Matrix.{codeword-bit}
+use Rattle.laws.specs.Matrix.{code-bit-lt, codeword-bit}
 use Rattle.laws.specs.SortedLists.{Rising}
 use Rattle.laws.specs.GroupSizes.{group-at}
 use Rattle.laws.specs.Fillings.{Fills}
@@ -69,10 +69,6 @@ first-free c (x ∷ cs) r m z only = (cs, ap (λ (y : Candidate). y ∷ cs) same
         let b : Before x x = rw e at (r .0 a i) in absurd (before-asym x x b b)
     costs a i (no y) = omega arith
 
-codeBit-lt : (n d i : ℕ) → codeBit n d i < 2
-unfolding codeBit
-codeBit-lt n d i = omega arith
-
 module _ (n mask : ℕ) (cost : ℕ → ℕ → ℕ) (folding w : ℕ) (clean : Clean n cost w) where
   -- the row of a node on the way to w: the candidate on that way, of no cost, and others that cost
   row : (k d : ℕ) → Node n mask folding (suc k) d → Completes n mask folding (suc k) d w
@@ -90,7 +86,7 @@ module _ (n mask : ℕ) (cost : ℕ → ℕ → ℕ) (folding w : ℕ) (clean : 
       free f c = branch-final n mask cost folding k (d + f) w c ∙ branch-none n cost w (group n folding k) (λ i m. clean .free i (group-at n folding k i m .0))
 
       bits : (f : ℕ) → branch n cost (d + f) (group n folding k) ≡ 0 → (i : ℕ) → List·Memᴰ i (group n folding k) → codeBit n (d + f) i ≡ codeBit n w i
-      bits f z i m = clean .alone i (codeBit n (d + f) i) (group-at n folding k i m .0) (codeBit-lt n (d + f) i) (branch-zero n cost (d + f) (group n folding k) z i m)
+      bits f z i m = clean .alone i (codeBit n (d + f) i) (group-at n folding k i m .0) (code-bit-lt n (d + f) i) (branch-zero n cost (d + f) (group n folding k) z i m)
 
       only : (f : ℕ) → Fills mask (group n folding k) f → Completes n mask folding k (d + f) w → (a : Candidate) → List·Memᴰ a (candidates n mask cost folding k d) → a .branch ≡ 0
           → a ≡ candidate n cost d (group n folding k) f
@@ -164,8 +160,8 @@ ideal-alone (suc zero) (suc (suc b)) h i e = absurd (omega arith)
 pub ideal-clean : (n w : ℕ) → Clean n (levelCost (idealLevels n (codeword n w))) w
 unfolding idealLevels
 ideal-clean n w = record {
-  free = λ i l. rw (each-at (λ j. ideal (bit (codeword n w) j)) (pos 0) (2 ^ n) i l, codeword-bit n w i) (ideal-free (codeBit n w i) (codeBit-lt n w i));
-  alone = λ i b l t z. ideal-alone (codeBit n w i) b (codeBit-lt n w i) t
+  free = λ i l. rw (each-at (λ j. ideal (bit (codeword n w) j)) (pos 0) (2 ^ n) i l, codeword-bit n w i) (ideal-free (codeBit n w i) (code-bit-lt n w i));
+  alone = λ i b l t z. ideal-alone (codeBit n w i) b (code-bit-lt n w i) t
       (rw (each-at (λ j. ideal (bit (codeword n w) j)) (pos 0) (2 ^ n) i l, codeword-bit n w i) at z);
 }
 

@@ -1,4 +1,4 @@
--- The leaves of the tree (law 7): with k levels left, the leaves below a node are the permitted words that agree with its
+-- The leaves of the tree: with k levels left, the leaves below a node are the permitted words that agree with its
 -- word in the groups decided; at the root, every permitted word, each at its distance.
 use Prim.Native.Nat.{ℕ, zero, suc, _+_, _^_, _≤_, _<_, zero-le}
 use mathlib.Core.Path.{_≡_, refl, sym, _∙_}
@@ -13,8 +13,7 @@ use Rattle.rules.specs.Word.{bit, unfrozen, permitted}
 use Rattle.rules.specs.Level.{wordDistance}
 use Rattle.rules.specs.Folding.{groupNo, group, groups}
 use Rattle.rules.specs.Walk.{branch, candidate, candidates}
-use Rattle.laws.specs.Bits.{bit-lt-two, bit-zero, bit-ext-below, bit-beyond, bit-add}
-use Rattle.laws.specs.BitsMore.{small-of-bits, picked, picked-in, picked-out, picked-beyond}
+use Rattle.laws.specs.Bits.{bit-lt-two, bit-zero, bit-ext-below, bit-beyond, bit-add, small-of-bits, picked, picked-in, picked-out, picked-beyond}
 use Rattle.laws.specs.BranchAndBound.{Leaf, Under}
 use Rattle.laws.specs.Groups.{codeBit-depends}
 use Rattle.laws.specs.GroupSizes.{groupNo-below, group-at, group-of}

@@ -1,11 +1,15 @@
--- How many fillings and candidates a group has: one where every index is frozen, else more.
+-- How many fillings and candidates a group has: two to the number of its unfrozen indices, so one where every index is frozen,
+-- else more.
 use Prim.Native.Nat.{ℕ, suc, _+_, _^_, _≤_}
 use mathlib.Core.Path.{_≡_, refl, sym, _∙_, ap}
-use mathlib.Core.Bool.{Bool, true, false, true≢false, _||_, cond}
+use mathlib.Core.Bool.{Bool, true, false, _||_, cond}
 use mathlib.Core.List.{List, [], _∷_, _++_, map}
-use native.Mathlib.Nat.{le-refl}
+use native.Mathlib.Nat.{two-pow-succ}
 use native.Mathlib.Omega.{arith}
+use lib.Dec.{ltb}
 use lib.ListN.{length, length-append, length-map}
+use lib.Pow.{pow-mono}
+use borrow.Author.Tests.{ltb-true, ltb-false, lt-ltb}
 use Rattle.rules.specs.Word.{unfrozen}
 use Rattle.rules.specs.Folding.{group}
 use Rattle.rules.specs.Walk.{Candidate, fillings, insert, inOrder, goesFirst, candidates}
@@ -15,42 +19,48 @@ unfoldable pub hasUnfrozen : ℕ → List ℕ → Bool
 hasUnfrozen mask [] = false
 hasUnfrozen mask (i ∷ is) = unfrozen mask i || hasUnfrozen mask is
 
--- one filling where every index is frozen
-pub one-filling : (mask : ℕ) (is : List ℕ) → hasUnfrozen mask is ≡ false → length (fillings mask is) ≡ 1
-unfolding hasUnfrozen fillings
-one-filling mask [] t = refl
-one-filling mask (i ∷ is) t = go (unfrozen mask i) t (one-filling mask is)
-  where
-    go : (u : Bool) → u || hasUnfrozen mask is ≡ false → (hasUnfrozen mask is ≡ false → length (fillings mask is) ≡ 1)
-        → length (cond u (fillings mask is ++ map (λ f. f + 2 ^ i) (fillings mask is)) (fillings mask is)) ≡ 1
-    go true t below = absurd (true≢false t)
-    go false t below = below t
-
 -- an unfrozen index more: twice as many
-pub twice : (mask i : ℕ) (is : List ℕ) → length (fillings mask is ++ map (λ f. f + 2 ^ i) (fillings mask is)) ≡ length (fillings mask is) + length (fillings mask is)
+twice : (mask i : ℕ) (is : List ℕ) → length (fillings mask is ++ map (λ f. f + 2 ^ i) (fillings mask is)) ≡ length (fillings mask is) + length (fillings mask is)
 twice mask i is = length-append (fillings mask is) _ ∙ ap (λ (x : ℕ). length (fillings mask is) + x) (length-map (fillings mask is) _)
 
--- a group has a filling
-some-filling : (mask : ℕ) (is : List ℕ) → 1 ≤ length (fillings mask is)
-unfolding fillings
-some-filling mask [] = le-refl 1
-some-filling mask (i ∷ is) = go (unfrozen mask i) (some-filling mask is)
+-- how many indices of a list are unfrozen
+unfoldable pub unfrozenIn : ℕ → List ℕ → ℕ
+unfrozenIn mask [] = 0
+unfrozenIn mask (i ∷ is) = cond (unfrozen mask i) 1 0 + unfrozenIn mask is
+
+-- each unfrozen index doubles the fillings
+pub fillings-number : (mask : ℕ) (is : List ℕ) → length (fillings mask is) ≡ 2 ^ unfrozenIn mask is
+unfolding fillings unfrozenIn
+fillings-number mask [] = refl
+fillings-number mask (i ∷ is) = go (unfrozen mask i) (fillings-number mask is)
   where
-    go : (u : Bool) → 1 ≤ length (fillings mask is)
-        → 1 ≤ length (cond u (fillings mask is ++ map (λ f. f + 2 ^ i) (fillings mask is)) (fillings mask is))
-    go true below = omega (arith, twice mask i is)
-    go false below = below
+    go : (u : Bool) → length (fillings mask is) ≡ 2 ^ unfrozenIn mask is
+        → length (cond u (fillings mask is ++ map (λ f. f + 2 ^ i) (fillings mask is)) (fillings mask is)) ≡ 2 ^ (cond u 1 0 + unfrozenIn mask is)
+    go true below =
+        let e : 1 + unfrozenIn mask is ≡ suc (unfrozenIn mask is) = omega arith in
+        rw e (omega (arith, twice mask i is, two-pow-succ (unfrozenIn mask is)))
+    go false below = let e : 0 + unfrozenIn mask is ≡ unfrozenIn mask is = omega arith in rw e below
+
+-- a list has an unfrozen index where their number is not 0
+any-unfrozen : (mask : ℕ) (is : List ℕ) → hasUnfrozen mask is ≡ ltb 0 (unfrozenIn mask is)
+unfolding hasUnfrozen unfrozenIn
+any-unfrozen mask [] = refl
+any-unfrozen mask (i ∷ is) = go (unfrozen mask i) (any-unfrozen mask is)
+  where
+    go : (u : Bool) → hasUnfrozen mask is ≡ ltb 0 (unfrozenIn mask is) → (u || hasUnfrozen mask is) ≡ ltb 0 (cond u 1 0 + unfrozenIn mask is)
+    go true below = sym (lt-ltb 0 (1 + unfrozenIn mask is) (omega arith))
+    go false below = let e : 0 + unfrozenIn mask is ≡ unfrozenIn mask is = omega arith in rw e below
+
+-- one filling where every index is frozen
+pub one-filling : (mask : ℕ) (is : List ℕ) → hasUnfrozen mask is ≡ false → length (fillings mask is) ≡ 1
+one-filling mask is t =
+    let none : unfrozenIn mask is ≡ 0 = omega (arith, ltb-false 0 (unfrozenIn mask is) (sym (any-unfrozen mask is) ∙ t)) in
+    fillings-number mask is ∙ ap (λ (k : ℕ). 2 ^ k) none
 
 -- and more than one where an index is unfrozen
 pub more-fillings : (mask : ℕ) (is : List ℕ) → hasUnfrozen mask is ≡ true → 2 ≤ length (fillings mask is)
-unfolding hasUnfrozen fillings
-more-fillings mask [] t = absurd (true≢false (sym t))
-more-fillings mask (i ∷ is) t = go (unfrozen mask i) t (more-fillings mask is)
-  where
-    go : (u : Bool) → u || hasUnfrozen mask is ≡ true → (hasUnfrozen mask is ≡ true → 2 ≤ length (fillings mask is))
-        → 2 ≤ length (cond u (fillings mask is ++ map (λ f. f + 2 ^ i) (fillings mask is)) (fillings mask is))
-    go true t below = omega (arith, twice mask i is, some-filling mask is)
-    go false t below = below t
+more-fillings mask is t =
+    rw (fillings-number mask is) (pow-mono {i = 1} {j = unfrozenIn mask is} (ltb-true 0 (unfrozenIn mask is) (sym (any-unfrozen mask is) ∙ t)))
 
 insert-length : (c : Candidate) (cs : List Candidate) → length (insert c cs) ≡ suc (length cs)
 unfolding insert

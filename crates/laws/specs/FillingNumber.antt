@@ -1,46 +1,28 @@
--- How many fillings a group has: two to the number of its unfrozen indices, by the frozen mask in seat order.
+-- How many fillings a group has, by the frozen mask in seat order: two to what the block of the group leaves open.
 use Prim.Native.Nat.{ℕ, zero, suc, _+_, _-_, _*_, _/_, _^_, _<_}
 use mathlib.Core.Path.{_≡_, refl, sym, ap, _∙_}
-use mathlib.Core.Bool.{Bool, true, false, cond}
-use mathlib.Core.List.{List, [], _∷_, _++_, map}
-use native.Mathlib.Nat.{mod-lt, two-pow-succ}
+use mathlib.Core.Bool.{cond}
+use mathlib.Core.List.{List, [], _∷_}
+use native.Mathlib.Nat.{mod-lt}
 use native.Mathlib.Omega.{arith}
 use lib.Pow.{pow-pos}
 use lib.Count.{ones}
 use lib.Dec.{eqb}
 use lib.ListN.{length, getD}
 use Rattle.rules.specs.Below.{sumBelow}
-use Rattle.rules.specs.Word.{bit, unfrozen}
+use Rattle.rules.specs.Word.{bit}
 use Rattle.rules.specs.Folding.{group, groups}
 use Rattle.rules.specs.Walk.{fillings}
 use Rattle.laws.specs.Sums.{sum-cong}
 use Rattle.laws.specs.Bits.{bit-lt-two}
 use Rattle.laws.specs.Counts.{ones-sum}
 use Rattle.laws.specs.GroupSizes.{group-length}
-use Rattle.laws.specs.FillingCount.{twice}
+use Rattle.laws.specs.FillingCount.{unfrozenIn, fillings-number}
 use Rattle.laws.specs.SeatGroups.{group-seat, group-seat-lt}
 use Rattle.laws.specs.SeatWords.{seat, seat-bit}
 use Rattle.laws.specs.Blocks.{block-bit}
 use Rattle.laws.specs.SeatedFillings.{sum-first}
 use Rattle.laws.specs.SeatedRow.{blockOf}
-
--- how many indices of a list are unfrozen
-unfoldable pub unfrozenIn : ℕ → List ℕ → ℕ
-unfrozenIn mask [] = 0
-unfrozenIn mask (i ∷ is) = cond (unfrozen mask i) 1 0 + unfrozenIn mask is
-
--- each unfrozen index doubles the fillings
-pub fillings-number : (mask : ℕ) (is : List ℕ) → length (fillings mask is) ≡ 2 ^ unfrozenIn mask is
-unfolding fillings unfrozenIn
-fillings-number mask [] = refl
-fillings-number mask (i ∷ is) = go (unfrozen mask i) (fillings-number mask is)
-  where
-    go : (u : Bool) → length (fillings mask is) ≡ 2 ^ unfrozenIn mask is
-        → length (cond u (fillings mask is ++ map (λ f. f + 2 ^ i) (fillings mask is)) (fillings mask is)) ≡ 2 ^ (cond u 1 0 + unfrozenIn mask is)
-    go true below =
-        let e : 1 + unfrozenIn mask is ≡ suc (unfrozenIn mask is) = omega arith in
-        rw e (omega (arith, twice mask i is, two-pow-succ (unfrozenIn mask is)))
-    go false below = let e : 0 + unfrozenIn mask is ≡ unfrozenIn mask is = omega arith in rw e below
 
 -- the unfrozen indices and the frozen ones make up the list
 unfrozen-and-frozen : (mask : ℕ) (is : List ℕ) → unfrozenIn mask is + sumBelow (length is) (λ t. bit mask (getD is t 0)) ≡ length is

@@ -9,21 +9,13 @@ use native.Mathlib.Omega.{arith}
 use lib.Bits.{bitAnd, bitXor, xor-add-and}
 use Rattle.rules.specs.Word.{bit, unfrozen}
 use Rattle.rules.specs.Walk.{fillings}
-use Rattle.laws.specs.Bits.{bit-lt-two, bit-zero, bit-ext, bit-and, bit-xor, bit-add, bit-pow-same, bit-pow-other}
+use Rattle.laws.specs.Bits.{bit-lt-two, bit-zero, bit-ext, bit-and, bit-xor, bit-put, bit-pow-same, bit-pow-other}
 use Rattle.laws.specs.SortedLists.{Rising, rising-append, rising-map, mem-map-at, mem-map-of}
 
 -- a one bit of f stands at an unfrozen index of the list
 pub record Fills (mask : ℕ) (is : List ℕ) (f : ℕ) : Type 0 where
   pub inside : (j : ℕ) → bit f j ≢ 0 → List·Memᴰ j is
   pub free : (j : ℕ) → bit f j ≢ 0 → unfrozen mask j ≡ true
-
--- the bits of a number to which a power of two is added at a zero
-put-bit : (g i : ℕ) → bit g i ≡ 0 → (j : ℕ) → bit (g + 2 ^ i) j ≡ bit g j + bit (2 ^ i) j
-put-bit g i z = bit-add g (2 ^ i) (λ k. at k (ℕ-discrete k i))
-  where
-    at : (k : ℕ) → Dec (k ≡ i) → bit g k + bit (2 ^ i) k ≤ 1
-    at k (yes e) = rw e (omega (arith, bit-pow-same i))
-    at k (no ne) = omega (arith, bit-pow-other i k ne, bit-lt-two g k)
 
 -- a one bit of a number, taken away
 take-bit : (f i : ℕ) → bit f i ≡ 1 → (g : ℕ) × (g + 2 ^ i ≡ f) × (bit g i ≡ 0)
@@ -44,7 +36,7 @@ fills-put : (mask i : ℕ) (is : List ℕ) (g : ℕ) → bit g i ≡ 0 → unfro
 fills-put mask i is g z u h = record { inside = λ j b. within j b (ℕ-discrete j i); free = λ j b. free j b (ℕ-discrete j i) }
   where
     other : (j : ℕ) → j ≢ i → bit (g + 2 ^ i) j ≢ 0 → bit g j ≢ 0
-    other j ne b = omega (arith, put-bit g i z j, bit-pow-other i j ne)
+    other j ne b = omega (arith, bit-put g i z j, bit-pow-other i j ne)
 
     within : (j : ℕ) → bit (g + 2 ^ i) j ≢ 0 → Dec (j ≡ i) → List·Memᴰ j (i ∷ is)
     within j b (yes e) = List·Memᴰ·head e
@@ -107,7 +99,7 @@ fillings-differ mask (i ∷ is) r = go (unfrozen mask i) (fillings-differ mask i
     apart : (f g : ℕ) → List·Memᴰ f (fillings mask is) → List·Memᴰ g (map (λ x. x + 2 ^ i) (fillings mask is)) → f ≢ g
     apart f g m k e =
         let x = mem-map-at (λ y. y + 2 ^ i) (fillings mask is) g k in
-        omega (arith, zero-at f m, put-bit (x .0) i (zero-at (x .0) (x .1)) i, bit-pow-same i, ap (λ (y : ℕ). bit y i) (e ∙ x .2))
+        omega (arith, zero-at f m, bit-put (x .0) i (zero-at (x .0) (x .1)) i, bit-pow-same i, ap (λ (y : ℕ). bit y i) (e ∙ x .2))
 
     go : (t : Bool) → Rising (λ (f g : ℕ). f ≢ g) (fillings mask is)
         → Rising (λ (f g : ℕ). f ≢ g) (cond t (fillings mask is ++ map (λ x. x + 2 ^ i) (fillings mask is)) (fillings mask is))
@@ -138,6 +130,6 @@ fillings-of mask (i ∷ is) f h = go (ℕ-discrete (bit f i) 0) (fillings-of mas
         put : (g : ℕ) × (g + 2 ^ i ≡ f) × (bit g i ≡ 0)
             → List·Memᴰ f (cond (unfrozen mask i) (fillings mask is ++ map (λ x. x + 2 ^ i) (fillings mask is)) (fillings mask is))
         put (g, e, z) =
-            let fewer : (j : ℕ) → bit g j ≤ bit f j = λ j. omega (arith, put-bit g i z j, ap (λ (x : ℕ). bit x j) e) in
+            let fewer : (j : ℕ) → bit g j ≤ bit f j = λ j. omega (arith, bit-put g i z j, ap (λ (x : ℕ). bit x j) e) in
             let m : List·Memᴰ g (fillings mask is) = below g (fills-rest mask i is g z (fills-fewer mask (i ∷ is) f g fewer h)) in
             rw (h .free i b) (Memᴰ·append-right (fillings mask is) (Memᴰ·cast (sym e) (mem-map-of (λ y. y + 2 ^ i) (fillings mask is) g m)))

@@ -1,24 +1,20 @@
--- The greatest distance (law 8): with every level in range no slot costs more than (limit + 256)², so that the distance of
+-- The greatest distance: with every level in range no slot costs more than (limit + 256)², so that the distance of
 -- any word is at most N times that.
 use Prim.Native.Nat.{ℕ, zero, suc, _+_, _*_, _-_, _^_, _≤_, _<_}
-use mathlib.Core.Path.{_≡_, refl}
-use mathlib.Core.Bool.{Bool, true, false, cond}
+use mathlib.Core.Path.{_≡_}
+use mathlib.Core.Bool.{true}
 use mathlib.Core.List.{List}
 use native.Mathlib.Nat.{le-trans, le-of-eq, mul-le-mul}
 use native.Mathlib.Omega.{arith}
 use lib.IntN.{ℤ, pos, negsuc, natAbs, subℕ}
-use lib.Dec.{ltb}
-use borrow.Author.Tests.{leb-true, ltb-true}
+use borrow.Author.Tests.{leb-true}
 use Rattle.rules.specs.Word.{bit}
 use Rattle.rules.specs.Level.{limit, inRange, levelAt, gap, slotCost, levelCost, distance}
+use Rattle.laws.specs.Apart.{abs-sub}
 use Rattle.laws.specs.Sums.{sum-le, sum-const}
 
 sub-le : (a b : ℕ) → natAbs (subℕ a b) ≤ a + b
-sub-le a b = go (ltb a b) refl
-  where
-    go : (t : Bool) → ltb a b ≡ t → natAbs (cond t (negsuc (b - suc a)) (pos (a - b))) ≤ a + b
-    go true e = omega (arith, ltb-true a b e)
-    go false e = omega arith
+sub-le a b = rw (abs-sub a b) (omega arith)
 
 -- a level is no farther from an ideal level than from 0 and on by 256
 gap-le : (level : ℤ) (b : ℕ) → gap level b ≤ natAbs level + 256

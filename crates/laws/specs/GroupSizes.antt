@@ -1,4 +1,4 @@
--- Groups of a folding, counted (law 7, first part): with k ones in the folding there are N / 2 ^ k groups of 2 ^ k indices,
+-- Groups of a folding, counted: with k ones in the folding there are N / 2 ^ k groups of 2 ^ k indices,
 -- each a rising list of the indices with its number.
 use Prim.Native.Nat.{ℕ, zero, suc, _+_, _-_, _*_, _/_, _%_, _^_, _≤_, _<_}
 use mathlib.Core.Path.{_≡_, refl, sym, _∙_, ap}
@@ -15,8 +15,7 @@ use lib.ListN.{length}
 use borrow.Author.Tests.{eq-eqb, ne-eqb, eqb-true}
 use Rattle.rules.specs.Below.{sumBelow, countBelow}
 use Rattle.rules.specs.Folding.{smallest, groupNo, group, groups}
-use Rattle.laws.specs.Sums.{sum-cong, sum-const, sum-mul, sum-single, sum-swap, mem-at, mem-of}
-use Rattle.laws.specs.SumsMore.{count-cong, length-list, sum-pairs}
+use Rattle.laws.specs.Sums.{sum-cong, sum-const, sum-mul, sum-single, sum-swap, mem-at, mem-of, count-cong, length-list, sum-pairs}
 use Rattle.laws.specs.Places.{count-rises, count-onto}
 use Rattle.laws.specs.SortedLists.{Rising, list-rising}
 use Rattle.laws.specs.Groups.{smallest-twice, smallest-same, groupNo-same}

@@ -1,4 +1,4 @@
--- Groups of a folding (law 7, first part): which indices share a number, the order of the numbers, and what a codeword bit
+-- Groups of a folding: which indices share a number, the order of the numbers, and what a codeword bit
 -- depends on.
 use Prim.Native.Nat.{ℕ, _-_, _%_, _^_, _≤_, _<_}
 use mathlib.Core.Path.{_≡_, refl, sym, _∙_, ap}

@@ -2,13 +2,13 @@
 use Prim.Native.Nat.{ℕ, zero, suc, _+_, _/_, _^_, _≤_, _<_}
 use mathlib.Core.Path.{_≡_, sym, ap, _∙_}
 use native.Mathlib.Nat.{div-one, not-suc-le-zero}
-use native.Mathlib.Numerals.{add-one, one-add}
+use native.Mathlib.Numerals.{add-one}
 use native.Mathlib.Decide.{decLt, ℕ-discrete}
 use native.Mathlib.Omega.{arith}
 use lib.Pow.{shr-shr, shr-mono}
 use lib.Arith.{bin-ind}
 use Rattle.rules.specs.Word.{bit}
-use Rattle.laws.specs.Bits.{bit-div, bit-ext}
+use Rattle.laws.specs.Bits.{bit-div, bit-half, bit-ext}
 
 -- bit k is the highest in which a and b differ, and it is one in b
 unfoldable pub Highest : ℕ → ℕ → ℕ → Type 0
@@ -34,12 +34,9 @@ pub highest-of : (b a : ℕ) → a < b → (k : ℕ) × Highest a b k
 unfolding Highest
 highest-of = bin-ind (λ (b : ℕ). (a : ℕ) → a < b → (k : ℕ) × Highest a b k) (λ a l. absurd (not-suc-le-zero l)) step
   where
-    half : (w i : ℕ) → bit (w / 2) i ≡ bit w (suc i)
-    half w i = bit-div w 1 i ∙ ap (bit w) (one-add i)
-
     later : (a b k : ℕ) → ((i : ℕ) → k ≤ i → bit (a / 2) i ≡ bit (b / 2) i) → (i : ℕ) → k < i → bit a i ≡ bit b i
     later a b k h zero l = absurd (not-suc-le-zero l)
-    later a b k h (suc i) l = sym (half a i) ∙ h i (omega arith) ∙ half b i
+    later a b k h (suc i) l = sym (bit-half a i) ∙ h i (omega arith) ∙ bit-half b i
 
     step : (b : ℕ) → ((a : ℕ) → a < b / 2 → (k : ℕ) × Highest a (b / 2) k) → (a : ℕ) → a < b → (k : ℕ) × Highest a b k
     step b below a l = go (ℕ-discrete (a / 2) (b / 2))
@@ -48,4 +45,4 @@ highest-of = bin-ind (λ (b : ℕ). (a : ℕ) → a < b → (k : ℕ) × Highest
         go (yes e) = (0, (rw div-one (omega arith), rw div-one (omega arith), later a b 0 (λ i j. rw e)))
         go (no n) =
             let r = below (a / 2) (omega arith) in
-            (suc (r .0), (sym (half a (r .0)) ∙ r .1 .0, sym (half b (r .0)) ∙ r .1 .1, later a b (suc (r .0)) (λ i j. r .1 .2 i j)))
+            (suc (r .0), (sym (bit-half a (r .0)) ∙ r .1 .0, sym (bit-half b (r .0)) ∙ r .1 .1, later a b (suc (r .0)) (λ i j. r .1 .2 i j)))

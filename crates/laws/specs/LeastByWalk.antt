@@ -1,4 +1,4 @@
--- The walk finds the least word (laws 6 and 7), under every folding and for every cost.
+-- The walk finds the least word, under every folding and for every cost.
 use Prim.Native.Nat.{ℕ, _^_, _<_, zero-le}
 use mathlib.Core.Path.{_≡_, refl, _∙_, ap}
 use mathlib.Core.Bool.{Bool, true, false, cond}

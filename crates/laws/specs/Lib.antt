@@ -1,7 +1,7 @@
 pub mod Answers
 pub mod Sums
 pub mod Bits
-pub mod SumsMore
+pub mod Apart
 pub mod SortedLists
 pub mod SortedRows
 pub mod BranchAndBound
@@ -20,7 +20,6 @@ pub mod ReedMuller
 pub mod Weight
 pub mod Fillings
 pub mod Candidates
-pub mod BitsMore
 pub mod Branches
 pub mod Completions
 pub mod LeastByWalk
@@ -50,4 +49,5 @@ pub mod SeatedDown
 pub mod SeatedFillings
 pub mod SeatedWalk
 pub mod FillingNumber
+pub mod Orders
 pub mod Records

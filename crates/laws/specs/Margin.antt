@@ -3,21 +3,20 @@
 use Prim.Native.Nat.{ℕ, zero, suc, _+_, _-_, _*_, _%_, _^_, _≤_, _<_}
 use mathlib.Core.Path.{_≡_, refl, sym, ap, _∙_}
 use mathlib.Core.Logic.{_≢_}
-use mathlib.Core.Bool.{Bool, true, false, cond}
+use mathlib.Core.Bool.{true}
 use mathlib.Core.Option.{some}
 use mathlib.Core.List.{List}
 use native.Mathlib.Nat.{add-comm, mul-comm, mul-add}
 use native.Mathlib.Decide.{ℕ-discrete, decLe}
 use native.Mathlib.Omega.{arith}
 use lib.Bits.{bitXor, xor-zero-l}
-use lib.Dec.{ltb}
-use lib.IntN.{ℤ, pos, negsuc, natAbs, subℕ}
-use borrow.Author.Tests.{ltb-true, ltb-false}
+use lib.IntN.{ℤ, pos, negsuc}
 use Rattle.rules.specs.Below.{sumBelow}
 use Rattle.rules.specs.Word.{bit, codeword, permitted}
 use Rattle.rules.specs.Level.{levelAt, gap, slotCost, levelCost, distance, wordDistance}
 use Rattle.rules.specs.Guard.{guardOf}
 use Rattle.laws.specs.Sums.{sum-le, sum-add, sum-mul}
+use Rattle.laws.specs.Apart.{abs-sub}
 use Rattle.laws.specs.Bits.{bit-lt-two, bit-within, bit-xor, xor-twice}
 use Rattle.laws.specs.Matrix.{codeword-xor}
 use Rattle.laws.specs.Weight.{weight, weight-least}
@@ -61,13 +60,6 @@ margin n mask g e cost moved s d ps pd z h =
   where
     apart : bitXor s d ≡ 0 → d ≡ s
     apart q = sym (xor-zero-l d) ∙ ap (λ (x : ℕ). bitXor x d) (sym q) ∙ xor-twice s d
-
-abs-sub : (a b : ℕ) → natAbs (subℕ a b) ≡ (a - b) + (b - a)
-abs-sub a b = go (ltb a b) refl
-  where
-    go : (t : Bool) → ltb a b ≡ t → natAbs (cond t (negsuc (b - suc a)) (pos (a - b))) ≡ (a - b) + (b - a)
-    go true e = omega (arith, ltb-true a b e)
-    go false e = omega (arith, ltb-false a b e)
 
 -- two magnitudes that are 512 apart, or 512 together
 data Gaps (p q : ℕ) : Type 0 where

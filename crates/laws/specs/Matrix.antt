@@ -18,7 +18,8 @@ use Rattle.laws.specs.Bits.{bit-div, bit-beyond, bit-mod, bit-low, bit-h
 abbrev taken : ℕ → ℕ → ℕ → ℕ
 taken i d j = cond (covers i j) (bit d j) 0
 
-code-bit-lt : (n d i : ℕ) → codeBit n d i < 2
+-- a bit of a codeword is 0 or 1
+pub code-bit-lt : (n d i : ℕ) → codeBit n d i < 2
 unfolding codeBit
 code-bit-lt n d i = omega arith
 
@@ -174,6 +175,11 @@ codeword-longer n m d l h = le-ind (λ (k : ℕ). codeword k d ≡ codeword n d)
   where
     step : (k : ℕ) → d < 2 ^ (2 ^ k) → codeword (suc k) d ≡ codeword k d
     step k small = codeword-halves k d ∙ rw (div-eq-of-lt small, mod-eq-of-lt small, codeword-zero k, xor-zero-r d) (omega arith)
+
+-- word 1 is its own codeword
+pub codeword-one : (n : ℕ) → codeword n 1 ≡ 1
+unfolding codeword codeBit sumBelow
+codeword-one n = codeword-longer 0 n 1 (omega arith) (omega arith)
 
 -- a short word moved into the upper half has its codeword in both halves
 pub codeword-moved : (n m d : ℕ) → n < m → d < 2 ^ (2 ^ n) → codeword m (d * 2 ^ (2 ^ n)) ≡ codeword m d + codeword m d * 2 ^ (2 ^ n)

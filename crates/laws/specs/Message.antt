@@ -1,8 +1,7 @@
--- Messages and information words: `spread` and `gather` bit by bit, one undoes the other, and they keep the order.
+-- Messages and information words: `spread` and `gather` bit by bit, and one undoes the other.
 use Prim.Native.Nat.{ℕ, zero, suc, _+_, _*_, _^_, _<_}
 use mathlib.Core.Path.{_≡_, refl, sym, ap, _∙_}
 use mathlib.Core.Bool.{Bool, true, false, cond}
-use mathlib.Core.Logic.{_↔_}
 use native.Mathlib.Nat.{zero-mul, two-pow-succ, mod-eq-of-lt, not-suc-le-zero}
 use native.Mathlib.Decide.{decLt, ℕ-discrete}
 use native.Mathlib.Omega.{arith}
@@ -12,7 +11,6 @@ use Rattle.rules.specs.Below.{sumBelow, countBelow}
 use Rattle.rules.specs.Word.{bit, unfrozen, permitted, place, messageBits, spread, gather}
 use Rattle.laws.specs.Sums.{sum-cong, sum-zero}
 use Rattle.laws.specs.Bits.{bit-lt-two, bit-zero, bit-beyond, bit-mod, bit-ext-below, word-lt, word-bit}
-use Rattle.laws.specs.Highest.{Highest, highest-lt, highest-of}
 use Rattle.laws.specs.Places.{count-passing, count-failing, count-rises, count-onto}
 use Rattle.laws.specs.Permitted.{permitted-lt, permitted-frozen, permitted-of, permitted-zero}
 
@@ -122,49 +120,6 @@ module _ (n mask : ℕ) where
       same : (i : ℕ) → i < 2 ^ n → (u : Bool) → unfrozen mask i ≡ u → bit (spread n mask (gather n mask d)) i ≡ bit d i
       same i l true u = spread-bit (gather n mask d) i l u ∙ gather-bit d i l u
       same i l false u = spread-clear (gather n mask d) i (λ k. u) ∙ sym (permitted-frozen n mask d p i l u)
-
-  same-spread : (m e i : ℕ) → (unfrozen mask i ≡ true → bit m (place mask i) ≡ bit e (place mask i))
-      → bit (spread n mask m) i ≡ bit (spread n mask e) i
-  same-spread m e i same = go (decLt i (2 ^ n)) (unfrozen mask i) refl
-    where
-      go : Dec (i < 2 ^ n) → (u : Bool) → unfrozen mask i ≡ u → bit (spread n mask m) i ≡ bit (spread n mask e) i
-      go (yes l) true u = spread-bit m i l u ∙ same u ∙ sym (spread-bit e i l u)
-      go (yes l) false u = spread-clear m i (λ k. u) ∙ sym (spread-clear e i (λ k. u))
-      go (no g) b u = spread-clear m i (λ l. absurd (g l)) ∙ sym (spread-clear e i (λ l. absurd (g l)))
-
-  inside : (w k : ℕ) → w < 2 ^ messageBits n mask → bit w k ≡ 1 → k < messageBits n mask
-  inside w k h o = go (decLt k (messageBits n mask))
-    where
-      go : Dec (k < messageBits n mask) → k < messageBits n mask
-      go (yes l) = l
-      go (no g) = absurd (omega (arith, bit-beyond {w = w} {k = messageBits n mask} {i = k} h (omega arith)))
-
-  -- the smaller message has the smaller word
-  pub spread-rises : (m e : ℕ) → e < 2 ^ messageBits n mask → m < e → spread n mask m < spread n mask e
-  unfolding Highest
-  spread-rises m e h l =
-      let top = highest-of e m l in
-      let r = count-onto (unfrozen mask) (2 ^ n) (top .0) (inside e (top .0) h (top .1 .1)) in
-      highest-lt (spread n mask m) (spread n mask e) (r .0) (
-        spread-bit m (r .0) (r .1) (r .2) ∙ rw (r .3) (top .1 .0),
-        spread-bit e (r .0) (r .1) (r .2) ∙ rw (r .3) (top .1 .1),
-        λ i k. same-spread m e i (λ u. top .1 .2 (place mask i) (rw (r .3) at (count-rises (unfrozen mask) k (r .2)))),
-      )
-
-  -- of two permitted words the smaller has the smaller message, and back
-  pub gather-order : (d e : ℕ) → permitted n mask d ≡ true → permitted n mask e ≡ true → (d < e) ↔ (gather n mask d < gather n mask e)
-  gather-order d e p q = (up, back d e p q)
-    where
-      back : (a b : ℕ) → permitted n mask a ≡ true → permitted n mask b ≡ true → gather n mask a < gather n mask b → a < b
-      back a b p q l = rw (spread-gather a p, spread-gather b q) at (spread-rises (gather n mask a) (gather n mask b) (gather-lt b) l)
-
-      up : d < e → gather n mask d < gather n mask e
-      up l = go (decLt (gather n mask d) (gather n mask e)) (ℕ-discrete (gather n mask d) (gather n mask e))
-        where
-          go : Dec (gather n mask d < gather n mask e) → Dec (gather n mask d ≡ gather n mask e) → gather n mask d < gather n mask e
-          go (yes k) b = k
-          go (no g) (yes s) = absurd (omega (arith, sym (spread-gather d p) ∙ ap (spread n mask) s ∙ spread-gather e q))
-          go (no g) (no s) = absurd (omega (arith, back e d q p (omega arith)))
 
   -- word 0 has message 0
   pub gather-zero : gather n mask 0 ≡ 0

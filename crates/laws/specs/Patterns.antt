@@ -1,4 +1,4 @@
--- Different fillings of a group have different patterns (law 7): so the candidates of a node are in strict order, and any
+-- Different fillings of a group have different patterns: so the candidates of a node are in strict order, and any
 -- list in that order with the same members is the same list.
 use Prim.Native.Nat.{ℕ, suc, _+_, _*_, _^_, _≤_, _<_}
 use mathlib.Core.Path.{_≡_, sym, _∙_, ap}

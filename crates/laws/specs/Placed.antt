@@ -1,5 +1,5 @@
 -- Words whose bits are put at given places, none twice, and sums over indices in another order.
-use Prim.Native.Nat.{ℕ, zero, suc, _+_, _*_, _^_, _≤_, _<_, min}
+use Prim.Native.Nat.{ℕ, zero, suc, _+_, _*_, _^_, _<_, min}
 use mathlib.Core.Path.{_≡_, refl, sym, _∙_}
 use mathlib.Core.Logic.{_≢_}
 use mathlib.Core.Bool.{cond}
@@ -12,7 +12,7 @@ use borrow.Author.Tests.{eq-eqb, ne-eqb}
 use Rattle.rules.specs.Below.{sumBelow}
 use Rattle.rules.specs.Word.{bit}
 use Rattle.laws.specs.Sums.{sum-cong, sum-single, sum-swap}
-use Rattle.laws.specs.Bits.{bit-lt-two, bit-zero, bit-ext, bit-and, bit-add, bit-pow-same, bit-pow-other}
+use Rattle.laws.specs.Bits.{bit-zero, bit-ext, bit-and, bit-put, bit-pow-same, bit-pow-other}
 
 -- no two numbers below m have one image
 abbrev pub Apart : ℕ → (ℕ → ℕ) → Type 0
@@ -31,11 +31,9 @@ single-other (suc (suc c)) a k l n = absurd (omega arith)
 
 -- a bit added where there was none
 single-add : (w c a : ℕ) → c < 2 → bit w a ≡ 0 → (k : ℕ) → bit (w + c * 2 ^ a) k ≡ bit w k + bit (c * 2 ^ a) k
-single-add w c a l z = bit-add w (c * 2 ^ a) (λ k. go k (ℕ-discrete k a))
-  where
-    go : (k : ℕ) → Dec (k ≡ a) → bit w k + bit (c * 2 ^ a) k ≤ 1
-    go k (yes e) = rw (e, z) (omega (arith, bit-lt-two (c * 2 ^ a) a))
-    go k (no n) = rw (single-other c a k l n) (omega (arith, bit-lt-two w k))
+single-add w zero a l z k = rw (zero-mul (2 ^ a), add-zero w, bit-zero k) (sym (add-zero (bit w k)))
+single-add w (suc zero) a l z k = rw (one-mul (2 ^ a)) (bit-put w a z k)
+single-add w (suc (suc c)) a l z k = absurd (omega arith)
 
 -- a bit put by `xor` where there was none is added
 pub xor-single : (w a b : ℕ) → bit w a ≡ 0 → b < 2 → bitXor w (b * 2 ^ a) ≡ w + b * 2 ^ a

@@ -8,17 +8,16 @@ use native.Mathlib.Omega.{arith}
 use lib.Pow.{pow-pos, split, high}
 use lib.Arith.{digits-lt}
 use lib.Count.{ones}
-use lib.ListN.{length, getD, take, drop, length-take, length-drop}
-use lib.Seq.{getD-take, getD-drop, ext-getD}
+use lib.ListN.{getD}
 use Rattle.rules.specs.Below.{countBelow, listBelow}
 use Rattle.rules.specs.Folding.{smallest, groupNo, group, groups}
 use Rattle.laws.specs.Sums.{mem-at, mem-of}
 use Rattle.laws.specs.SortedLists.{list-rising, rising-map, rising-unique, mem-map-at, mem-map-of}
 use Rattle.laws.specs.Each.{each-at}
 use Rattle.laws.specs.Groups.{smallest-twice, groupNo-lt, groupNo-same}
-use Rattle.laws.specs.GroupSizes.{groups-all, groupNo-below, group-length, group-at, group-of, group-rising}
+use Rattle.laws.specs.GroupSizes.{groups-all, groupNo-below, group-at, group-of, group-rising}
 use Rattle.laws.specs.Deposits.{deposit, deposit-lt, deposit-rises}
-use Rattle.laws.specs.Seats.{hasBit, seats, seatIndex, outPart, ones-count, high-size, seats-length, seat-at, seat-below, seat-onto, seat-smallest}
+use Rattle.laws.specs.Seats.{hasBit, seatIndex, outPart, ones-count, high-size, seat-at, seat-below, seat-onto, seat-smallest}
 
 -- a strictly rising map of the numbers below m into themselves moves none
 rising-self : (m : ℕ) (r : ℕ → ℕ) → ((i j : ℕ) → i < j → j < m → r i < r j) → ((i : ℕ) → i < m → r i < m) → (k : ℕ) → k < m → r k ≡ k
@@ -94,13 +93,3 @@ module _ (n F : ℕ) (fits : F < 2 ^ n) where
   -- the t-th index of group k is at seat k * 2 ^ ones F + t
   pub group-seat : (k t : ℕ) → k < groups n F → t < 2 ^ ones F → getD (group n F k) t 0 ≡ seatIndex n F (k * 2 ^ ones F + t)
   group-seat k t hk ht = rw (in-order k hk) (each-at (λ t. seatIndex n F (k * 2 ^ ones F + t)) 0 (2 ^ ones F) t ht)
-
-  -- the indices of group k are those at its seats
-  pub group-seats : (k : ℕ) → k < groups n F → group n F k ≡ take (2 ^ ones F) (drop (k * 2 ^ ones F) (seats n F))
-  group-seats k l =
-      ext-getD 0 _ _ (group-length n F fits k l ∙ sym long)
-      (λ t h. let ht : t < 2 ^ ones F = rw (group-length n F fits k l) at h in group-seat k t l ht ∙ rw (getD-take, getD-drop))
-    where
-      long : length (take (2 ^ ones F) (drop (k * 2 ^ ones F) (seats n F))) ≡ 2 ^ ones F
-      long = rw (length-take, length-drop, seats-length n F fits)
-          (omega (arith, pow-pos (ones F), group-seat-lt k (2 ^ ones F - 1) l (omega (arith, pow-pos (ones F)))))

@@ -8,8 +8,7 @@ use lib.Bits.{bitXor}
 use Rattle.rules.specs.Below.{sumBelow}
 use Rattle.rules.specs.Word.{bit, covers, codeBit}
 use Rattle.laws.specs.Sums.{sum-cong, sum-zero, sum-add}
-use Rattle.laws.specs.Bits.{bit-lt-two, bit-zero, bit-beyond, bit-add, bit-ext-below, word-lt, word-bit}
-use Rattle.laws.specs.BitsMore.{small-of-bits}
+use Rattle.laws.specs.Bits.{bit-lt-two, bit-zero, bit-beyond, bit-add, bit-ext-below, word-lt, word-bit, small-of-bits}
 use Rattle.laws.specs.Placed.{Apart, xor-single, placed-at, placed-other, sum-permuted}
 use Rattle.laws.specs.Seats.{seatIndex, seat-below, seat-covers, seat-inj, seat-onto}
 

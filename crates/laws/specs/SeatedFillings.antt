@@ -16,8 +16,7 @@ use Rattle.rules.specs.Below.{sumBelow}
 use Rattle.rules.specs.Word.{bit, codeBit}
 use Rattle.rules.specs.Folding.{group, groups}
 use Rattle.rules.specs.Walk.{pattern, branch}
-use Rattle.laws.specs.Bits.{bit-lt-two, bit-zero, bit-ext, bit-ext-below, bit-beyond, bit-within, bit-div, bit-and}
-use Rattle.laws.specs.BitsMore.{small-of-bits}
+use Rattle.laws.specs.Bits.{bit-lt-two, bit-zero, bit-ext, bit-ext-below, bit-beyond, bit-within, bit-div, bit-and, small-of-bits}
 use Rattle.laws.specs.GroupSizes.{group-at, group-of}
 use Rattle.laws.specs.Fillings.{Fills}
 use Rattle.laws.specs.Completions.{fill-zero}

@@ -19,10 +19,9 @@ use Rattle.rules.specs.Below.{sumBelow, countBelow}
 use Rattle.rules.specs.Word.{bit, covers}
 use Rattle.rules.specs.Folding.{smallest}
 use Rattle.laws.specs.Deposits.{deposit, deposit-lt, deposit-bit, deposit-above, deposit-passing, deposit-failing}
-use Rattle.laws.specs.Bits.{bit-lt-two, bit-beyond, bit-add, bit-mod, bit-div, bit-ext-below, covers-at, covers-of, covers-refl, covers-antisym}
+use Rattle.laws.specs.Bits.{bit-lt-two, bit-beyond, bit-add, bit-mod, bit-div, bit-ext-below, covers-at, covers-of, covers-refl, covers-antisym, small-of-bits}
 use Rattle.laws.specs.Groups.{smallest-bit}
 use Rattle.laws.specs.Placed.{Apart, placed-at, placed-other}
-use Rattle.laws.specs.BitsMore.{small-of-bits}
 use Rattle.laws.specs.Sums.{sum-cong, sum-add, sum-const}
 use Rattle.laws.specs.Counts.{ones-sum}
 use Rattle.laws.specs.Places.{count-passing, count-failing, count-rises, count-inj, count-onto}
@@ -148,11 +147,6 @@ module _ (n F : ℕ) (fits : F < 2 ^ n) where
   -- the indices of group 0 are as many as a group has
   pub inside-length : length (widenedBy (hasBit F 1) n (0 ∷ [])) ≡ 2 ^ ones F
   inside-length = widened-by-length (hasBit F 1) n (0 ∷ []) ∙ rw ones-count (one-mul _)
-
-  -- there are 2 ^ n seats
-  pub seats-length : length (seats n F) ≡ 2 ^ n
-  unfolding seats
-  seats-length = widened-by-length (hasBit F 0) n _ ∙ rw inside-length (mul-comm _ _ ∙ high-size)
 
   -- the index at seat t of group k
   pub seat-at : (k t : ℕ) → k < 2 ^ countBelow n (hasBit F 0) → t < 2 ^ ones F

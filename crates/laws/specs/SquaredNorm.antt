@@ -1,4 +1,4 @@
--- The distance as source document 000 measures it (law 8). Its equation 5 takes the squared norm of y - x, where x is a bit, 0 or 1,
+-- The distance as source document 000 measures it. Its equation 5 takes the squared norm of y - x, where x is a bit, 0 or 1,
 -- and y is the level on the scale on which the ideal levels are 0 and 1: y = (level + 256) / 512. So 512 · (y - x) is
 -- level + 256 - 512 · x, and 512² times the squared norm is the sum of the squares of these whole numbers. It is the distance,
 -- so that the least distance and the least norm are at the same word.

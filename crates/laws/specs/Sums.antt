@@ -1,14 +1,16 @@
 -- Laws of sums, counts, tests and lists over the numbers below a bound. `-at` reads what a result says of an index, `-of` is the way back.
 use Prim.Native.Nat.{ℕ, zero, suc, _+_, _*_, _%_, _≤_, _<_, zero-le}
-use mathlib.Core.Path.{_≡_, refl, sym, ap₂, _∙_}
+use mathlib.Core.Path.{_≡_, refl, sym, ap, ap₂, _∙_}
 use mathlib.Core.Logic.{_≢_, _⊎_, inl, inr}
 use mathlib.Core.Bool.{Bool, true, false, _&&_, cond}
 use mathlib.Core.Option.{Option, none, some, Option·none-ne-some}
 use mathlib.Core.List.{[], _∷_, _++_, List·Memᴰ, List·Memᴰ·head, Memᴰ·append-left, Memᴰ·append-right, List·Memᴰ·append-cases, List·Memᴰ·eq-of-singleton, List·Memᴰ·not-nil}
 use native.Mathlib.Nat.{add-zero, add-suc, zero-mul, suc-mul, mul-add, add-le-add, not-suc-le-zero}
 use native.Mathlib.Decide.{ℕ-discrete}
+use native.Mathlib.Numerals.{add-one}
 use native.Mathlib.Omega.{arith}
-use Rattle.rules.specs.Below.{sumBelow, allBelow, firstBelow, listBelow, orElse}
+use lib.ListN.{length, length-append}
+use Rattle.rules.specs.Below.{sumBelow, countBelow, allBelow, firstBelow, listBelow, orElse}
 
 -- sums of functions that agree below m
 pub sum-cong : (m : ℕ) {f g : ℕ → ℕ} → ((i : ℕ) → i < m → f i ≡ g i) → sumBelow m f ≡ sumBelow m g
@@ -165,3 +167,25 @@ mem-of (suc m) test i l e = go (ℕ-discrete i m) (λ i<m. mem-of m test i i<m e
     go : Dec (i ≡ m) → (i < m → List·Memᴰ i (listBelow m test)) → List·Memᴰ i (listBelow m test ++ cond (test m) (m ∷ []) [])
     go (yes i≡m) below = Memᴰ·append-right (listBelow m test) (rw (← i≡m, e) (List·Memᴰ·head refl))
     go (no n) below = Memᴰ·append-left (cond (test m) (m ∷ []) []) (below (omega arith))
+
+-- tests that agree below m count the same
+pub count-cong : (m : ℕ) (a b : ℕ → Bool) → ((i : ℕ) → i < m → a i ≡ b i) → countBelow m a ≡ countBelow m b
+unfolding countBelow
+count-cong m a b h = sum-cong m (λ i l. ap (λ (t : Bool). cond t 1 0) (h i l))
+
+-- the list of the numbers that pass is as long as their count
+pub length-list : (m : ℕ) (test : ℕ → Bool) → length (listBelow m test) ≡ countBelow m test
+unfolding countBelow sumBelow listBelow
+length-list zero test = refl
+length-list (suc m) test = length-append (listBelow m test) (cond (test m) (m ∷ []) []) ∙ rw (length-list m test) (go (test m))
+  where
+    go : (t : Bool) → countBelow m test + length (cond t (m ∷ []) []) ≡ countBelow m test + cond t 1 0
+    go true = refl
+    go false = refl
+
+-- a sum over the even and odd numbers below 2 m, pair by pair
+pub sum-pairs : (m : ℕ) (f : ℕ → ℕ) → sumBelow (m * 2) f ≡ sumBelow m (λ i. f (i * 2) + f (i * 2 + 1))
+unfolding sumBelow
+sum-pairs zero f = refl
+sum-pairs (suc m) f =
+    let e : suc m * 2 ≡ suc (suc (m * 2)) = omega arith in rw (e, ← sum-pairs m f, add-one (m * 2)) (omega arith)

@@ -1,20 +1,22 @@
 -- The sizes of a block: what the tests of n and of the slots filled say.
 use Prim.Native.Nat.{ℕ, _*_, _%_, _^_, _≤_}
-use mathlib.Core.Path.{_≡_, _∙_}
+use mathlib.Core.Path.{_≡_}
 use mathlib.Core.Bool.{false}
-use native.Mathlib.Nat.{one-mul}
 use native.Mathlib.Omega.{arith}
 use borrow.Author.Tests.{ltb-false}
 use lib.Dec.{ltb}
-use lib.Pow.{pow-mono, shl-exact}
+use lib.Pow.{pow-mono}
 use Rattle.rules.specs.Refusals.{isWrongSize, largest}
+use Rattle.laws.specs.Bits.{power-shifted}
 use Rattle.laws.specs.Sizes.{or-left, or-right, size-le}
 use Rattle.light.specs.Values.{room}
 use Rattle.light.specs.Steps.{isWrong}
 
+-- the slots of a block, as the machine shifts
 pub shifted : (n : ℕ) → n ≤ largest → 1 * 2 ^ n % 18446744073709551616 ≡ 2 ^ n
-shifted n h = shl-exact 1 n 64 (omega arith) (omega arith) ∙ one-mul (2 ^ n)
+shifted n h = power-shifted 64 n (omega arith)
 
+-- and they have room
 pub in-room : (n : ℕ) → n ≤ largest → 2 ^ n ≤ room
 in-room n h = pow-mono h
 

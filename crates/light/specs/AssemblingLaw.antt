@@ -3,7 +3,7 @@
 use Prim.Native.Nat.{ℕ, suc, _+_, _^_, _≤_, _<_}
 use mathlib.Core.Path.{_≡_, refl, sym, ap, _∙_}
 use mathlib.Core.Bool.{false, _||_}
-use mathlib.Core.Option.{Option, none, some}
+use mathlib.Core.Option.{Option, none, some, Option·none-ne-some}
 use mathlib.Core.List.{List, [], _∷_, _++_, map, append-nil, append-assoc, map-append}
 use native.Mathlib.Omega.{arith}
 use borrow.Author.Tests.{le-ltb, eq-eqb}
@@ -12,8 +12,9 @@ use lib.IntN.{ℤ, pos}
 use lib.ListN.{length, take, length-append, length-set, length-replicate}
 use lib.Seq.{take-suc-set}
 use Rattle.rules.specs.Assembling.{Assembler, Reading, slotLevels, slotsNeeded, firstWithout, start, fillSlot, fillSlots, takeReading}
-use Rattle.rules.specs.Refusals.{done, refuseAt, isWrongSize, notFinite}
+use Rattle.rules.specs.Refusals.{done, isWrongSize, notFinite}
 use Rattle.rules.specs.Answers.{takeAnswer, takeLeft, giveAnswer, giveLeft}
+use Rattle.laws.specs.Orders.{not-refused-at}
 
 -- the assembler after readings are taken one after another
 unfoldable pub takeAll : Assembler → List Reading → Assembler
@@ -66,23 +67,16 @@ one-filled a z h =
       levels = ap (map some) (take-suc-set (a .levels) (a .filled) z h) ∙ map-append some (take (a .filled) (a .levels)) (z ∷ []);
     }
 
-not-none : {A : Type 0} (x : A) → some x ≡ none → ⊥
-not-none x e = let z : _≡_ {A = ℕ} 0 1 = cc in omega arith
-
 fill-all : (slots : List (Option ℤ)) (k : ℕ) (a : Assembler) → firstWithout slots k ≡ none
     → a .filled + length slots ≤ length (a .levels) → Filled a (fillSlots a slots) slots
 unfolding firstWithout fillSlots
 fill-all [] k a f h = none-filled a
-fill-all (none ∷ rest) k a f h = absurd (not-none k f)
+fill-all (none ∷ rest) k a f h = absurd (Option·none-ne-some k (sym f))
 fill-all (some z ∷ rest) k a f h =
     then a (fillSlot a z) (fillSlots (fillSlot a z) rest) (some z ∷ []) rest (one-filled a z (omega arith))
     (fill-all rest (suc k) (fillSlot a z) f (omega (arith, length-set (a .levels) (a .filled) z)))
 
 -- ---- one reading
-
-without : (o : Option ℕ) → refuseAt 11 o ≡ none → o ≡ none
-without none e = refl
-without (some v) e = absurd (not-none _ e)
 
 module _ (a : Assembler) (reading : Reading) (w : isWrongSize (a .n) ≡ false) (f : notFinite reading ≡ none)
     (h : a .filled + slotsNeeded reading ≤ 2 ^ (a .n)) where
@@ -98,7 +92,7 @@ module _ (a : Assembler) (reading : Reading) (w : isWrongSize (a .n) ≡ false) 
   is-left = rw is-taken
 
   is-filled : 2 ^ (a .n) ≤ length (a .levels) → Filled a (takeLeft a reading) (slotLevels reading)
-  is-filled r = rw is-left (fill-all (slotLevels reading) 0 a (without (firstWithout (slotLevels reading) 0) f) (omega arith))
+  is-filled r = rw is-left (fill-all (slotLevels reading) 0 a (not-refused-at 11 (firstWithout (slotLevels reading) 0) f) (omega arith))
 
 -- ---- any list of readings
 

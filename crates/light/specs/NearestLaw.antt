@@ -2,15 +2,15 @@
 -- one half away, and it is the only whole number of which both hold.
 use Prim.Native.Nat.{ℕ, zero, suc, _+_, _-_, _*_, _/_, _%_, _≤_, _<_, compare, Ordering, Ordering·lt, Ordering·eq, Ordering·gt}
 use mathlib.Core.Path.{_≡_, refl, sym, ap, _∙_, subst}
-use mathlib.Core.Bool.{Bool, true, false, not, cond}
+use mathlib.Core.Bool.{Bool, true, false, not}
 use native.Mathlib.Nat.{div-add-mod', mod-lt, mul-le-mul-right, eq-of-mul-eq-mul-right, suc-mul, zero-mul}
 use native.Mathlib.Omega.{arith}
-use lib.IntN.{ℤ, pos, negsuc, natAbs, subℕ, _*ℤ_, _-ℤ_}
-use lib.Dec.{T, isLe, isEq, ltb, eqb, leb→le, nleb→lt, eqb→eq, eqb-refl}
-use borrow.Author.Tests.{ltb-true, ltb-false}
+use lib.IntN.{ℤ, pos, negsuc, natAbs, _*ℤ_, _-ℤ_}
+use lib.Dec.{T, isLe, isEq, eqb, leb→le, nleb→lt, eqb→eq, eqb-refl}
 use lib.Ieee.{up, down, nearest}
 use lib.Ieee.Fits.{down-pos}
 use Rattle.rules.specs.Sample.{nearestWhole, signed, unclipped}
+use Rattle.laws.specs.Apart.{abs-sub}
 
 -- ---- in natural numbers: a / b and the whole number nearest to it
 
@@ -103,13 +103,6 @@ times : (s : Bool) (q b : ℕ) → signed s q *ℤ pos b ≡ signed s (q * b)
 times false q b = refl
 times true zero b = simp zero-mul
 times true (suc q) b = refl
-
-abs-sub : (x y : ℕ) → natAbs (subℕ x y) ≡ apart x y
-abs-sub x y = go (ltb x y) refl
-  where
-    go : (t : Bool) → ltb x y ≡ t → natAbs (cond t (negsuc (y - suc x)) (pos (x - y))) ≡ apart x y
-    go true h = omega (arith, ltb-true x y h)
-    go false h = omega (arith, ltb-false x y h)
 
 -- two numbers of one sign
 gap-like : (s : Bool) (x y : ℕ) → natAbs (signed s x -ℤ signed s y) ≡ apart x y

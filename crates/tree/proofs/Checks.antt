@@ -4,16 +4,15 @@ use mathlib.Core.Path.{_≡_, ap, _∙_}
 use mathlib.Core.Bool.{true, false, not}
 use mathlib.Core.Option.{none, some}
 use mathlib.Core.List.{List}
-use native.Mathlib.Nat.{one-mul}
 use native.Mathlib.Omega.{arith}
 use lib.Dec.{eqb}
 use lib.IntN.{ℤ}
 use lib.ListN.{length}
-use lib.Pow.{shl-exact}
 use borrow.Author.Tests.{eq-eqb, ne-eqb, lt-ltb, le-ltb, not-false}
 use Rattle.rules.specs.Below.{firstBelow}
 use Rattle.rules.specs.Level.{inRange, levelAt}
 use Rattle.laws.specs.Sums.{none-at}
+use Rattle.laws.specs.Bits.{power-shifted}
 use Rattle.tree.specs.Costs.{firstOut, slotFound}
 
 -- the length of the slice
@@ -25,7 +24,7 @@ length-wrong m slots h = ap not (ne-eqb m slots h)
 
 -- the bound of the folding, as the machine shifts it
 pub folding-shifted : (n : ℕ) → n ≤ 6 → 1 * 2 ^ n % 2 ^ 32 ≡ 2 ^ n
-folding-shifted n small = shl-exact 1 n 32 (omega arith) (omega arith) ∙ one-mul (2 ^ n)
+folding-shifted n small = power-shifted 32 n (omega arith)
 
 module _ (levels : List ℤ) (slots first : ℕ) (long : length levels ≡ slots) (found : firstOut levels ≡ slotFound (length levels) first) where
   -- the first level out of range

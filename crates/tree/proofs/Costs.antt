@@ -1,17 +1,18 @@
 -- A level in range, shifted by the limit, is an unsigned number, and its distances from both ideal levels are those of that number.
 use Prim.Native.Nat.{ℕ, suc, _+_, _-_, _^_, _≤_, _<_}
 use mathlib.Core.Path.{_≡_, refl, sym, ap, _∙_}
-use mathlib.Core.Bool.{Bool, true, false, cond, not, _&&_}
+use mathlib.Core.Bool.{Bool, true, false, not, _&&_}
 use native.Mathlib.Omega.{arith}
-use lib.Dec.{ltb, leb}
-use lib.IntN.{ℤ, pos, negsuc, natAbs, _+ℤ_, subℕ}
+use lib.Dec.{leb}
+use lib.IntN.{ℤ, pos, negsuc, _+ℤ_}
 use lib.Signed.{leZ, mag}
 use mir.Syntax.{w32}
 use mir.Val.{SFits, toZ, ofZ}
 use mir.ValLaws.{toZ-ofZ, toZ-pos}
 use borrow.Author.Needs.{sfits-of}
-use borrow.Author.Tests.{leb-true, leb-false, le-leb, lt-leb, le-ltb, ltb-true, ltb-false}
+use borrow.Author.Tests.{leb-true, leb-false, le-leb, lt-leb, le-ltb}
 use Rattle.rules.specs.Level.{limit, inRange, gap}
+use Rattle.laws.specs.Apart.{abs-sub}
 
 -- the range as two signed tests
 pub range-tests : (z : ℤ) → inRange z ≡ (leZ (negsuc (limit - 1)) z && leZ z (pos limit))
@@ -39,22 +40,14 @@ shift-sum : (z : ℤ) → inRange z ≡ true → z +ℤ pos limit ≡ pos (shift
 shift-sum (pos m) h = refl
 shift-sum (negsuc m) h = rw (le-ltb limit (suc m) (leb-true (suc m) limit h))
 
--- how far two numbers are apart, from their difference
-sub-apart : (a b : ℕ) → natAbs (subℕ a b) ≡ a - b + (b - a)
-sub-apart a b = go (ltb a b) refl
-  where
-    go : (t : Bool) → ltb a b ≡ t → natAbs (cond t (negsuc (b - suc a)) (pos (a - b))) ≡ a - b + (b - a)
-    go true e = omega (arith, ltb-true a b e)
-    go false e = omega (arith, ltb-false a b e)
-
 -- the distance from the ideal level of bit 0
 pub gap-zero : (z : ℤ) → inRange z ≡ true → gap z 0 ≡ shift z - (limit - 256) + (limit - 256 - shift z)
 gap-zero (pos m) h = omega arith
-gap-zero (negsuc m) h = sub-apart 256 (suc m) ∙ omega (arith, leb-true (suc m) limit h)
+gap-zero (negsuc m) h = abs-sub 256 (suc m) ∙ omega (arith, leb-true (suc m) limit h)
 
 -- and of bit 1
 pub gap-one : (z : ℤ) → inRange z ≡ true → gap z 1 ≡ shift z - (limit + 256) + (limit + 256 - shift z)
-gap-one (pos m) h = sub-apart m 256 ∙ omega arith
+gap-one (pos m) h = abs-sub m 256 ∙ omega arith
 gap-one (negsuc m) h = omega (arith, leb-true (suc m) limit h)
 
 module _ (z : ℤ) (fits : SFits w32 z) (h : inRange z ≡ true) where

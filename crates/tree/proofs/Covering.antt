@@ -9,9 +9,8 @@ use lib.Bits.{bitXor, xor-comm, xor-shifted}
 use lib.ListN.{length, set, getD, length-set}
 use lib.Pow.{pow-add, pow-lt, pow-mono, pow-pos}
 use lib.Seq.{getD-set-same, getD-set-other}
-use Rattle.rules.specs.Below.{sumBelow}
-use Rattle.rules.specs.Word.{codeBit, codeword}
-use Rattle.laws.specs.Matrix.{codeword-lt, codeword-longer, codeword-moved}
+use Rattle.rules.specs.Word.{codeword}
+use Rattle.laws.specs.Matrix.{codeword-lt, codeword-one, codeword-longer, codeword-moved}
 use Rattle.tree.specs.Costs.{GroupSize}
 use Rattle.tree.specs.Seating.{Covered}
 
@@ -29,28 +28,22 @@ pub record Highest (highest k : ℕ) : Type 0 where
   pub above : highest ≤ k
   pub below : k < highest * 2
 
-pub some-highest : {highest k : ℕ} → Highest highest k → 0 < highest
-some-highest is = rw (is .power .1) (pow-pos (is .power .0))
+-- a power of two is not 0
+pub some-power : {highest : ℕ} → (b : ℕ) × (highest ≡ 2 ^ b) → 0 < highest
+some-power power = rw (power .1) (pow-pos (power .0))
 
 -- the test: k is the next power of two, or highest stays
 module _ {size : ℕ} {r : List ℕ} {highest k : ℕ} (inv : Covering size r highest k) where
-  some-power : 0 < highest
-  some-power = rw (inv .power .1) (pow-pos (inv .power .0))
-
   pub highest-itself : k ≡ highest * 2 → Highest k k
   highest-itself e =
       record {
         power = (suc (inv .power .0), e ∙ ap (λ (h : ℕ). h * 2) (inv .power .1) ∙ sym (two-pow-succ (inv .power .0) ∙ omega arith));
         above = omega arith;
-        below = omega (arith, some-power);
+        below = omega (arith, some-power (inv .power));
       }
 
   pub highest-still : (k ≡ highest * 2 → ⊥) → Highest highest k
   highest-still other = record { power = inv .power; above = inv .above; below = omega (arith, inv .below, other) }
-
-lone : codeword 0 1 ≡ 1
-unfolding codeword codeBit sumBelow
-lone = refl
 
 -- group 0 covers itself alone
 pub covering-first : (size : ℕ) (r : List ℕ) → length r ≡ 64 → getD r 0 0 ≡ 1 → Covering size r 1 1
@@ -58,7 +51,7 @@ covering-first size r long first =
     record { long = long; power = (0, refl); above = omega arith; below = omega arith; done = λ k h. go k (omega arith) }
   where
     go : (k : ℕ) → k ≡ 0 → getD r k 0 ≡ codeword 6 (2 ^ (k * size))
-    go k e = rw (e, zero-mul size) (first ∙ sym (codeword-longer 0 6 1 (omega arith) (omega arith) ∙ lone))
+    go k e = rw (e, zero-mul size) (first ∙ sym (codeword-one 6))
 
 module _ (groups size : ℕ) (given : GroupSize size × (groups * size ≤ 64)) where
   some-size : 0 < size

@@ -5,13 +5,13 @@ use native.Mathlib.Nat.{mul-div-cancel, mul-mod-left, mod-lt, add-zero}
 use native.Mathlib.Omega.{arith}
 use lib.Arith.{digits-lt, mod-mul}
 use lib.Pow.{pow-pos, pow-add}
+use Rattle.laws.specs.Bits.{power-shifted}
 use Rattle.tree.specs.Tables.{Inside}
-use Rattle.tree.proofs.WideningBy.{step-shifted}
 
 module _ {size k j : ℕ} (inside : Inside size k j) where
   -- a row's length as the machine shifts it
   pub entries-shifted : 1 * 2 ^ size % 2 ^ 64 ≡ 2 ^ size
-  entries-shifted = step-shifted size (omega (arith, inside .narrow))
+  entries-shifted = power-shifted 64 size (omega (arith, inside .narrow))
 
   pub row-in-table : k * 2 ^ size / 256 < 8
   row-in-table = omega (arith, inside .group)

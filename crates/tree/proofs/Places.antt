@@ -8,8 +8,8 @@ use native.Mathlib.Omega.{arith}
 use lib.IntN.{ℤ}
 use lib.ListN.{length, getD, take, drop, set, replicate, length-set, length-append, getD-replicate, length-drop, List·getD-append}
 use lib.Seq.{getD-set-same, getD-set-other, getD-append-add, getD-take, length-take-le}
+use Rattle.laws.specs.Bits.{power-shifted}
 use Rattle.laws.specs.SortedRows.{rowOf, row-length}
-use Rattle.word.proofs.Shifts.{one-shifted}
 use Rattle.tree.proofs.Building.{by-size, size-small}
 use Rattle.tree.specs.Costs.{GroupSize, Levelled, seatCost, RowsRight}
 
@@ -29,7 +29,7 @@ place {groups = groups} {k = k} g l =
 
 -- the machine's number of entries in a row
 pub row-entries : {size : ℕ} → GroupSize size → 1 * 2 ^ size % 2 ^ 64 ≡ 2 ^ size
-row-entries {size} g = one-shifted size (omega (arith, size-small g))
+row-entries {size} g = power-shifted 64 size (omega (arith, size-small g))
 
 -- the seats of group k, among those of all groups
 pub group-seats : {levels : List ℤ} {index : List ℕ} {count : ℕ} (first size : ℕ) → first + size ≤ count → Levelled levels index 0 count

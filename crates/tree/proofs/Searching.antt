@@ -1,10 +1,10 @@
 -- From what the steps of a search make to what its walk asks and finds.
-use Prim.Native.Nat.{ℕ, zero, suc, _+_, _*_, _/_, _%_, _^_, _≤_, _<_}
-use mathlib.Core.Path.{_≡_, refl, sym, ap, ap₂, fun-ext, _∙_}
+use Prim.Native.Nat.{ℕ, _+_, _*_, _/_, _%_, _^_, _≤_, _<_}
+use mathlib.Core.Path.{_≡_, sym, ap, ap₂, fun-ext, _∙_}
 use mathlib.Core.Bool.{cond}
 use mathlib.Core.Option.{none, some}
-use mathlib.Core.List.{List, [], _∷_, List·Memᴰ, List·Memᴰ·head, List·Memᴰ·tail}
-use native.Mathlib.Nat.{zero-add, suc-mul, mul-le-mul-right, not-suc-le-zero, le-of-suc-le-suc}
+use mathlib.Core.List.{List, [], List·Memᴰ}
+use native.Mathlib.Nat.{zero-add, suc-mul, mul-le-mul-right}
 use native.Mathlib.Omega.{arith}
 use lib.Count.{ones}
 use lib.Dec.{ltb}
@@ -21,6 +21,7 @@ use Rattle.laws.specs.GroupSizes.{groups-all}
 use Rattle.laws.specs.Seats.{seatIndex, seat-below}
 use Rattle.laws.specs.SeatWords.{seat}
 use Rattle.laws.specs.SeatedWalk.{seatedCandidates, seated-least-in}
+use Rattle.laws.specs.SortedLists.{mem-getD}
 use Rattle.laws.specs.SortedRows.{rowOf, row-length, row-at, row-bound, row-cong, entry-parts}
 use Rattle.laws.specs.Allowance.{walkIn}
 use Rattle.tree.specs.Seating.{Seated, Covered}
@@ -31,12 +32,6 @@ use Rattle.tree.specs.States.{empty}
 use Rattle.tree.specs.Search.{Searchable}
 use Rattle.tree.specs.declared.walk.Tree.{Tree}
 use Rattle.tree.proofs.SeatLoops.{index-at}
-
--- what stands in a list is one of its members
-member : (l : List ℕ) (i : ℕ) → i < length l → List·Memᴰ (getD l i 0) l
-member [] i h = absurd (not-suc-le-zero h)
-member (x ∷ l) zero h = List·Memᴰ·head refl
-member (x ∷ l) (suc i) h = List·Memᴰ·tail (member l i (le-of-suc-le-suc h))
 
 module _ {n : ℕ} {levels : List ℤ} {folding : ℕ} (given : Searchable n levels folding) {index : List ℕ} (seated : Seated index n folding)
     (size many : ℕ) (sized : size ≡ 2 ^ ones folding) (counted : many ≡ length levels / size) where
@@ -70,7 +65,7 @@ module _ {n : ℕ} {levels : List ℤ} {folding : ℕ} (given : Searchable n lev
     unfolding RowsRight
     entry-in k j hk hj =
         rw (right k j hk hj)
-        (member (rowOf (seatCost levels index (k * size)) size) j (rw (row-length (seatCost levels index (k * size)) size) hj))
+        (mem-getD (rowOf (seatCost levels index (k * size)) size) j 0 (rw (row-length (seatCost levels index (k * size)) size) hj))
 
     cheap : (k : ℕ) → k < many → (t b : ℕ) → t < size → seatCost levels index (k * size) t b ≤ most
     cheap k hk t b ht =

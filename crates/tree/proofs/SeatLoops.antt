@@ -4,7 +4,6 @@ use mathlib.Core.Path.{_≡_, sym, ap, _∙_}
 use mathlib.Core.List.{List}
 use native.Mathlib.Nat.{lt-of-lt-of-le}
 use native.Mathlib.Numerals.{add-one}
-use native.Mathlib.Omega.{arith}
 use lib.Bits.{bitXor}
 use lib.ListN.{getD}
 use lib.Pow.{pow-mono}
@@ -13,6 +12,7 @@ use Rattle.rules.specs.Word.{bit}
 use Rattle.laws.specs.Seats.{seatIndex, seat-below}
 use Rattle.laws.specs.SeatWords.{seatBelow, unseatBelow, seat-step, unseat-step}
 use Rattle.word.specs.Words.{sizeOf}
+use Rattle.word.specs.Sizes.{slots-are}
 use Rattle.tree.specs.Seating.{Seated}
 
 module _ {l : List ℕ} {n folding : ℕ} (given : Seated l n folding) where
@@ -20,13 +20,8 @@ module _ {l : List ℕ} {n folding : ℕ} (given : Seated l n folding) where
   pub seats-fit : 2 ^ n ≤ 64
   seats-fit = pow-mono (given .few)
 
-  pub slots-all : (slots : ℕ) → slots ≡ 2 ^ sizeOf n → slots ≡ 2 ^ n
-  slots-all slots e =
-      let own : sizeOf n ≡ n = omega (arith, given .few) in
-      e ∙ ap (λ (k : ℕ). 2 ^ k) own
-
   pub seat-here : (slots : ℕ) → slots ≡ 2 ^ sizeOf n → (p : ℕ) → p < slots → p < 2 ^ n
-  seat-here slots e p h = rw (← slots-all slots e) h
+  seat-here slots e p h = rw (← slots-are n slots (given .few) e) h
 
   -- the index at a seat
   pub index-at : (p : ℕ) → p < 2 ^ n → getD l p 0 ≡ seatIndex n folding p

@@ -1,5 +1,5 @@
 -- One step of a node: what is known where a group's candidates are tried, and of the node one level down.
-use Prim.Native.Nat.{ℕ, zero, suc, _+_, _*_, _/_, _%_, _^_, _≤_, _<_, min}
+use Prim.Native.Nat.{ℕ, suc, _+_, _*_, _/_, _%_, _^_, _≤_, _<_, min}
 use mathlib.Core.Path.{_≡_, sym, ap, ap₂, _∙_}
 use mathlib.Core.List.{List}
 use native.Mathlib.Nat.{suc-mul, mul-one, mul-le-mul-left, mul-le-mul-right, mod-lt, mod-eq-of-lt, le-trans, lt-of-lt-of-le, mul-comm}
@@ -18,51 +18,30 @@ use Rattle.laws.specs.SeatedRow.{blockOf, entryCandidate, short-code}
 use Rattle.laws.specs.SeatedDown.{SeatedDown, groups-blocks, seated-down, block-small}
 use Rattle.laws.specs.Blocks.{block-code-lt}
 use Rattle.tree.specs.Tables.{Inside, entryAt}
+use Rattle.tree.specs.Costs.{GroupSize}
 use Rattle.tree.specs.Nodes.{Given, rowCandidates, most}
 use Rattle.tree.specs.declared.walk.Tree.{Tree}
 use Rattle.tree.specs.declared.state.Walked.{Walked}
 use Rattle.tree.proofs.Rows.{rest}
-
--- a group has 1, 2, 4 or 8 indices
-data Sizes : ℕ → Type 0 where
-  one : Sizes 1
-  two : Sizes 2
-  four : Sizes 4
-  eight : Sizes 8
-
-sizes : (f : ℕ) → f ≤ 3 → Sizes (2 ^ f)
-sizes zero h = one
-sizes (suc zero) h = two
-sizes (suc (suc zero)) h = four
-sizes (suc (suc (suc zero))) h = eight
-sizes (suc (suc (suc (suc f)))) h = absurd (omega arith)
+use Rattle.tree.proofs.Building.{by-size, size-small}
 
 -- the row of a group among 64 slots is in the table
-in-table : (size k : ℕ) → Sizes size → suc k * size ≤ 64 → k * 2 ^ size < 2048
-in-table size k one h = omega arith
-in-table size k two h = omega arith
-in-table size k four h = omega arith
-in-table size k eight h = omega arith
-
-size-le : (size : ℕ) → Sizes size → size ≤ 8
-size-le size one = omega arith
-size-le size two = omega arith
-size-le size four = omega arith
-size-le size eight = omega arith
+in-table : {size : ℕ} (k : ℕ) → GroupSize size → suc k * size ≤ 64 → k * 2 ^ size < 2048
+in-table k = by-size (λ (size : ℕ). suc k * size ≤ 64 → k * 2 ^ size < 2048) (λ h. omega arith) (λ h. omega arith) (λ h. omega arith) (λ h. omega arith)
 
 module _ {table : List (List ℕ)} {index covered bytes : List ℕ} {tree : Tree} {k partial d x : ℕ} {s : Walked}
     (given : Given table index covered bytes tree (suc k) partial d x s) where
   sized : tree .size ≡ 2 ^ ones (tree .folding)
   sized = given .rows .sized
 
-  shape : Sizes (tree .size)
-  shape = rw sized (sizes (ones (tree .folding)) (given .rows .few))
+  shape : GroupSize (tree .size)
+  shape = (ones (tree .folding), given .rows .few, sized)
 
   slots-le : 2 ^ (tree .n) ≤ 64
   slots-le = pow-mono (given .seated .few)
 
   pub narrow : tree .size ≤ 8
-  narrow = size-le (tree .size) shape
+  narrow = size-small shape
 
   some-size : 0 < tree .size
   some-size = rw sized (pow-pos (ones (tree .folding)))
@@ -75,7 +54,7 @@ module _ {table : List (List ℕ)} {index covered bytes : List ℕ} {tree : Tree
 
   -- every entry of the group's row is in the table
   pub inside : (j : ℕ) → j < 2 ^ (tree .size) → Inside (tree .size) k j
-  inside j h = record { narrow = narrow; group = in-table (tree .size) k shape (le-trans (given .rows .inside) slots-le); entry = h }
+  inside j h = record { narrow = narrow; group = in-table k shape (le-trans (given .rows .inside) slots-le); entry = h }
 
   -- the group is one of the folding's
   group-is : k < groups (tree .n) (tree .folding)
@@ -107,9 +86,6 @@ module _ {table : List (List ℕ)} {index covered bytes : List ℕ} {tree : Tree
       rw (seat-unseat (tree .n) (tree .folding) (given .seated .fits) d (given .begun .word), ← given .begun .code)
 
   module _ (j : ℕ) (h : j < 2 ^ (tree .size)) where
-    entry : ℕ
-    entry = entryAt table (tree .size) k j
-
     -- the pattern's own bits
     abbrev pub own : ℕ
     own = bitXor (entryAt table (tree .size) k j % 256) (blockOf (tree .size) k x)

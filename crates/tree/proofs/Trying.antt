@@ -17,12 +17,12 @@ use Rattle.laws.specs.Each.{each-at}
 use Rattle.laws.specs.Allowance.{visitIn, walkIn, visit-end, visit-stopped, visit-out, visit-cut, visit-down, walk-last, walk-node}
 use Rattle.laws.specs.SeatWords.{unseat}
 use Rattle.laws.specs.SeatedRow.{blockOf, isOpen, entryCandidate}
+use Rattle.laws.specs.Bits.{power-shifted}
 use Rattle.tree.specs.Tables.{entryAt}
 use Rattle.tree.specs.States.{keptOf, runningOf, stateOf}
 use Rattle.tree.specs.Nodes.{Given, rowCandidates}
 use Rattle.tree.specs.declared.walk.Tree.{Tree}
 use Rattle.tree.specs.declared.state.Walked.{Walked}
-use Rattle.tree.proofs.WideningBy.{step-shifted}
 use Rattle.tree.proofs.Rows.{rest, rest-open, rest-shut, rest-end}
 use Rattle.tree.proofs.Steps.{narrow, block-is, here, own, added, filled}
 
@@ -93,9 +93,6 @@ module _ {rows : List (List ℕ)} {index covered bytes : List ℕ} {tree : Tree}
   module _ (h : j < entries) where
     pub below : j < 2 ^ (tree .size)
     below = rw (← t .counted) h
-
-    entry : ℕ
-    entry = entryAt rows (tree .size) k j
 
     -- what the code read of the entry
     pub record Read (e o f : ℕ) : Type 0 where
@@ -240,7 +237,7 @@ module _ {rows : List (List ℕ)} {index covered bytes : List ℕ} {tree : Tree}
         levels = levels-left;
         sized = refl;
         placed = refl;
-        counted = step-shifted (tree .size) (omega (arith, narrow given-next));
+        counted = power-shifted 64 (tree .size) (omega (arith, narrow given-next));
         forced-is = block-is given-next x forced isForced;
         shut-is = block-is given-next (tree .frozen) shut isShut;
         tried = omega arith;

@@ -1,14 +1,14 @@
 -- Widening a list of indices by one bit after another.
-use Prim.Native.Nat.{ℕ, zero, suc, _+_, _-_, _*_, _%_, _^_, _≤_, _<_}
+use Prim.Native.Nat.{ℕ, zero, suc, _+_, _-_, _*_, _^_, _≤_, _<_}
 use mathlib.Core.Path.{_≡_, refl, sym, ap, _∙_}
 use mathlib.Core.Bool.{Bool, true, false}
 use mathlib.Core.List.{List, [], _∷_, _++_, map}
-use native.Mathlib.Nat.{mul-le-mul-left, pow-suc, mul-assoc, mul-one, one-mul, not-suc-le-zero, le-of-suc-le-suc}
+use native.Mathlib.Nat.{mul-le-mul-left, pow-suc, mul-assoc, mul-one, not-suc-le-zero, le-of-suc-le-suc}
 use native.Mathlib.Numerals.{add-one}
 use native.Mathlib.Decide.{decLt}
 use native.Mathlib.Omega.{arith}
 use lib.ListN.{length, take, getD, length-map, List·getD-map, List·getD-append}
-use lib.Pow.{pow-mono, shl-exact}
+use lib.Pow.{pow-mono}
 use lib.Seq.{getD-take, getD-append-add, length-take-le}
 use Rattle.rules.specs.Below.{countBelow, sumBelow}
 use Rattle.laws.specs.Places.{count-passing, count-failing, count-mono}
@@ -104,7 +104,3 @@ module _ (l : List ℕ) (m : ℕ) (test : ℕ → Bool) where
           listed = rw fails (before .listed);
           small = λ c given q h. omega (arith, before .small c given q h);
         })
-
--- a step within the word, as the machine shifts it
-pub step-shifted : (b : ℕ) → b < 64 → 1 * 2 ^ b % 2 ^ 64 ≡ 2 ^ b
-step-shifted b fits = shl-exact 1 b 64 (omega arith) (omega arith) ∙ one-mul (2 ^ b)

@@ -3,8 +3,8 @@
 -- visits than are allowed.
 use Prim.Native.Nat.{ℕ, suc, _-_, _^_, _≤_, _<_}
 use mathlib.Core.Path.{_≡_, refl, sym, ap, _∙_}
-use mathlib.Core.Bool.{Bool, true, false, not, _||_, true≢false}
-use mathlib.Core.Option.{Option, none, some, Option·none-ne-some}
+use mathlib.Core.Bool.{true, false, not}
+use mathlib.Core.Option.{none}
 use mathlib.Core.List.{List, [], _∷_}
 use native.Mathlib.Omega.{arith}
 use lib.Count.{ones}
@@ -18,11 +18,13 @@ use Rattle.rules.specs.Word.{codeword, gather}
 use Rattle.rules.specs.Level.{inRange, levelAt, levelCost, wordDistance, Least}
 use Rattle.rules.specs.Folding.{group, groups}
 use Rattle.rules.specs.Walk.{fillings, walkVisits}
-use Rattle.rules.specs.Refusals.{Refusal, refused, done, answer, refuse, refuseAt, isEmpty, isWrongSize, wrongSize, wrongLength, noCandidate, smallAllowance}
+use Rattle.rules.specs.Refusals.{refused, done, answer, refuseAt, isEmpty, isWrongSize, wrongSize, wrongLength, noCandidate, smallAllowance}
 use Rattle.rules.specs.Answers.{Decoded, decoded, treeOrder, decodeAnswer}
 use Rattle.laws.specs.Sums.{none-at, none-of}
 use Rattle.laws.specs.Least.{leastWord-least, least-unique}
-use Rattle.laws.specs.FillingNumber.{unfrozenIn, fillings-number}
+use Rattle.laws.specs.Sizes.{or-left, size-le}
+use Rattle.laws.specs.Orders.{passed, not-refused, not-refused-at}
+use Rattle.laws.specs.FillingCount.{unfrozenIn, fillings-number}
 
 -- what refusals 1 to 6 let pass
 pub record Accepted (n : ℕ) (levels : List ℤ) (mask folding : ℕ) : Type 0 where
@@ -55,42 +57,18 @@ pub never-seven : (n mask folding : ℕ) → noCandidate n mask folding ≡ none
 never-seven n mask folding =
     ap (refuseAt 7) (none-of (groups n folding) _ (λ t l. filled mask (group n folding (groups n folding - suc t))))
 
--- no refusal of an order is given
-NoneGiven : List (Option Refusal) → Type 0
-NoneGiven [] = Unit {0}
-NoneGiven (o ∷ order) = (o ≡ none) × NoneGiven order
-
--- a success says so, and is the success that the order leads to
-all-passed : {A : Type 0} (order : List (Option Refusal)) (success a : A) → answer order success ≡ done a → NoneGiven order × (success ≡ a)
-unfolding NoneGiven
-all-passed [] success a e = (tt, cc)
-all-passed (none ∷ order) success a e = let r = all-passed order success a e in ((refl, r .0), r .1)
-all-passed (some r ∷ order) success a e = let z : _≡_ {A = ℕ} 0 1 = cc in absurd (omega arith)
-
-not-refused : (number : ℕ) (t : Bool) → refuse number t ≡ none → t ≡ false
-not-refused number true e = absurd (Option·none-ne-some _ (sym e))
-not-refused number false e = refl
-
-not-refused-at : (number : ℕ) (o : Option ℕ) → refuseAt number o ≡ none → o ≡ none
-not-refused-at number none e = refl
-not-refused-at number (some v) e = absurd (Option·none-ne-some _ (sym e))
-
-either-false : (s t : Bool) → (s || t) ≡ false → (s ≡ false) × (t ≡ false)
-either-false true t e = (e, absurd (true≢false e))
-either-false false t e = (refl, e)
-
 module _ (n : ℕ) (levels : List ℤ) (mask folding allowance : ℕ) where
   -- refusals 1 to 6 let the input pass, and the visits are allowed
   pub done-accepted : (a : Decoded) → decodeAnswer n levels mask folding allowance ≡ done a
       → Accepted n levels mask folding × (walkVisits n mask (levelCost levels) folding ≤ allowance) × (decoded n levels mask folding ≡ a)
-  unfolding decodeAnswer treeOrder NoneGiven
+  unfolding decodeAnswer treeOrder
   done-accepted a e =
-      let r = all-passed (wrongSize n ∷ wrongLength n levels ∷ treeOrder n levels mask folding allowance) (decoded n levels mask folding) a e in
+      let r = passed (wrongSize n ∷ wrongLength n levels ∷ treeOrder n levels mask folding allowance) (decoded n levels mask folding) a e in
       let p = r .0 in
-      let size = either-false (ltb n 1) (ltb 6 n) (not-refused 1 _ (p .0)) in (
+      let size = not-refused 1 _ (p .0) in (
         record {
-          some-slots = ltb-false n 1 (size .0);
-          small = ltb-false 6 n (size .1);
+          some-slots = ltb-false n 1 (or-left (ltb n 1) (ltb 6 n) size);
+          small = size-le n size;
           long = eqb-true _ _ (not-false _ (not-refused 2 _ (p .1 .0)));
           mask-fits = leb-false _ _ (not-refused 3 _ (p .1 .1 .0));
           folding-fits = leb-false _ _ (not-refused 4 _ (p .1 .1 .1 .0));

@@ -49,7 +49,7 @@ pub(crate) fn seats(n: u32, folding: u32) -> [usize; 64]
 {
     let mut index = [0usize; 64];
     let inside = widen_by(&mut index, 1, n, folding, 1);
-    let all = widen_by(&mut index, inside, n, folding, 0);
+    widen_by(&mut index, inside, n, folding, 0);
     index
 }
 

@@ -8,8 +8,8 @@ use lib.Count.{ones}
 use lib.Dec.{ltb}
 use lib.Pow.{pow-mono, pow-pos}
 use borrow.Author.Needs.{needs}
+use Rattle.laws.specs.Bits.{power-shifted}
 use Rattle.tree.specs.Empty.{firstEmpty}
-use Rattle.tree.proofs.WideningBy.{step-shifted}
 use Rattle.tree.proofs.Searching.{groups-are, all-slots, levelled, table-right, walked}
 use Rattle.tree.proofs.Found.{Ends, used-up, enough, distance-fits, visits-fit, found-right, answer-seven, answer-eight, answer-found}
 use Rattle.tree.proofs.search.Statement.{statement}
@@ -17,7 +17,7 @@ use Rattle.tree.proofs.search.Tie as tie
 
 -- a group's size, as the machine shifts it
 size-is : (folding r : ℕ) → ones folding ≤ 3 → r ≡ ones folding → 1 * 2 ^ r % 2 ^ 64 ≡ 2 ^ ones folding
-size-is folding r few e = step-shifted r (omega arith) ∙ ap (λ (f : ℕ). 2 ^ f) e
+size-is folding r few e = power-shifted 64 r (omega arith) ∙ ap (λ (f : ℕ). 2 ^ f) e
 
 folding-size-requires : tie.Need-folding-size-requires
 folding-size-requires c κs = search needs

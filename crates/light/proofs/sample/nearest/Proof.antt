@@ -2,13 +2,13 @@
 use Prim.Native.Nat.{ℕ, _+_, _-_, _*_, _%_, _^_, _≤_}
 use mathlib.Core.Path.{_≡_, sym, ap, subst, _∙_}
 use mathlib.Core.Bool.{not}
-use native.Mathlib.Nat.{one-mul}
 use native.Mathlib.Omega.{arith}
 use borrow.Author.Needs.{needs}
 use lib.Dec.{T}
-use lib.Pow.{pow-pos, shl-exact}
+use lib.Pow.{pow-pos}
 use lib.Ieee.{Float, fin, binary32, fits, isNan}
 use Rattle.rules.specs.Sample.{nearestWhole}
+use Rattle.laws.specs.Bits.{power-shifted}
 use Rattle.light.specs.Steps.{within}
 use Rattle.light.proofs.Fields.{exponent, digits, digits-lt, exponent-le, below-half, from-half}
 use Rattle.light.proofs.sample.nearest.Statement.{statement}
@@ -19,7 +19,7 @@ unfolding isNan
 no-nan k (fin s m e) w = tt
 
 shift : (x : ℕ) → 126 ≤ x → 1 * 2 ^ (150 - x) % 4294967296 ≡ 2 ^ (150 - x)
-shift x h = shl-exact 1 (150 - x) 32 (omega arith) (omega arith) ∙ one-mul (2 ^ (150 - x))
+shift x h = power-shifted 32 (150 - x) (omega arith)
 
 held : (c : tie.Start) → T (fits binary32 (c .args .x))
 held c = subst T (sym (c .good .0 .1)) tt

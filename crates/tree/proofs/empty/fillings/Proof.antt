@@ -1,11 +1,9 @@
 -- `tree::empty::fillings` meets its contract.
 use Prim.Native.Nat.{_-_}
-use mathlib.Core.Path.{_∙_}
-use native.Mathlib.Nat.{one-mul}
 use native.Mathlib.Omega.{arith}
 use lib.Count.{ones, ones-le}
-use lib.Pow.{shl-exact}
 use borrow.Author.Needs.{needs}
+use Rattle.laws.specs.Bits.{power-shifted}
 use Rattle.tree.proofs.empty.fillings.Statement.{statement}
 use Rattle.tree.proofs.empty.fillings.Tie as tie
 
@@ -27,7 +25,7 @@ shl-result c = search needs
 returns : tie.Need-returns
 returns c =
     rw (c .ones .ensures)
-    (shl-exact 1 (c .before .args .size - ones (c .before .args .shut)) 32 (omega arith) (omega (arith, c .before .pre .0)) ∙ one-mul _)
+    (power-shifted 32 (c .before .args .size - ones (c .before .args .shut)) (omega (arith, c .before .pre .0)))
 
 pub fillings-spec : {M : Type 1} → statement M
 fillings-spec =

@@ -7,7 +7,7 @@ use lib.Bits.{bitXor}
 use lib.ListN.{getD}
 use borrow.Author.Needs.{needs}
 use Rattle.rules.specs.Word.{codeword}
-use Rattle.tree.proofs.Covering.{Covering, Highest, covering-first, highest-itself, highest-still, some-highest, few-groups, moves, moved-xor, covering-next}
+use Rattle.tree.proofs.Covering.{Covering, Highest, covering-first, highest-itself, highest-still, some-power, few-groups, moves, moved-xor, covering-next}
 use Rattle.tree.proofs.seat.covered.Statement.{statement}
 use Rattle.tree.proofs.seat.covered.Tie as tie
 
@@ -38,7 +38,7 @@ rest c = getD (c .before .before .before .loop .r) (c .before .before .before .l
 
 rest-at : (c : tie.After-row-known Inv-loop μ-loop)
     → rest c ≡ codeword 6 (2 ^ ((c .before .before .before .loop .k - c .before .if1 .highest) * c .before .before .before .before .args .size))
-rest-at c = c .before .before .before .loop .inv .done _ (omega (arith, highest-at c .above, some-highest (highest-at c)))
+rest-at c = c .before .before .before .loop .inv .done _ (omega (arith, highest-at c .above, some-power (highest-at c .power)))
 
 sub-rest : tie.Need-sub-rest Inv-loop μ-loop
 sub-rest c = highest-at c .above

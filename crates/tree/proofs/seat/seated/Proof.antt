@@ -6,7 +6,8 @@ use lib.Bits.{bitXor}
 use borrow.Author.Needs.{needs}
 use Rattle.rules.specs.Below.{sumBelow}
 use Rattle.laws.specs.SeatWords.{seat, seatBelow}
-use Rattle.tree.proofs.SeatLoops.{seats-fit, slots-all, seat-here, index-fits, seat-next}
+use Rattle.word.specs.Sizes.{slots-are}
+use Rattle.tree.proofs.SeatLoops.{seats-fit, seat-here, index-fits, seat-next}
 use Rattle.tree.proofs.seat.seated.Statement.{statement}
 use Rattle.tree.proofs.seat.seated.Tie as tie
 
@@ -59,7 +60,7 @@ loop-again c =
 returns : tie.Need-returns Inv-loop μ-loop
 unfolding seat
 returns c =
-    let all = slots-all (c .before .before .before .pre) _ (c .before .before .slots .ensures) in
+    let all = slots-are _ _ (c .before .before .before .pre .few) (c .before .before .slots .ensures) in
     c .before .loop .inv .1 ∙ ap (seatBelow _ _ _) (omega (arith, all))
 
 pub seated-spec : {M : Type 1} → statement M

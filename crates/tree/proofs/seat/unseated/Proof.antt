@@ -6,7 +6,8 @@ use lib.Bits.{bitXor}
 use borrow.Author.Needs.{needs}
 use Rattle.rules.specs.Below.{sumBelow}
 use Rattle.laws.specs.SeatWords.{unseat, unseatBelow}
-use Rattle.tree.proofs.SeatLoops.{seats-fit, slots-all, seat-here, index-fits, unseat-next}
+use Rattle.word.specs.Sizes.{slots-are}
+use Rattle.tree.proofs.SeatLoops.{seats-fit, seat-here, index-fits, unseat-next}
 use Rattle.tree.proofs.seat.unseated.Statement.{statement}
 use Rattle.tree.proofs.seat.unseated.Tie as tie
 
@@ -59,7 +60,7 @@ loop-again c =
 returns : tie.Need-returns Inv-loop μ-loop
 unfolding unseat
 returns c =
-    let all = slots-all (c .before .before .before .pre) _ (c .before .before .slots .ensures) in
+    let all = slots-are _ _ (c .before .before .before .pre .few) (c .before .before .slots .ensures) in
     c .before .loop .inv .1 ∙ ap (unseatBelow _ _ _) (omega (arith, all))
 
 pub unseated-spec : {M : Type 1} → statement M

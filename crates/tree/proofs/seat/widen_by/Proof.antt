@@ -7,8 +7,9 @@ use lib.ListN.{take}
 use lib.Pow.{pow-mono}
 use borrow.Author.Needs.{needs}
 use borrow.Author.Tests.{eq-eqb, ne-eqb}
+use Rattle.laws.specs.Bits.{power-shifted}
 use Rattle.laws.specs.Seats.{widened, hasBit}
-use Rattle.tree.proofs.WideningBy.{Widened, widened-none, widened-room, widened-passing, widened-failing, step-shifted}
+use Rattle.tree.proofs.WideningBy.{Widened, widened-none, widened-room, widened-passing, widened-failing}
 use Rattle.tree.proofs.seat.widen_by.Statement.{statement}
 use Rattle.tree.proofs.seat.widen_by.Tie as tie
 
@@ -40,7 +41,7 @@ widen-requires c κs =
       long = inv .same ∙ given .long;
       room = widened-room _ _ _ _ _ (given .room) (c .before .before .loop-test .taken) (eq-eqb _ _ (c .before .if1 .taken)) (inv .counted);
       small = λ q h. omega (arith, inv .small 1024 (given .small) q h);
-      short = rw (step-shifted (c .before .before .before .loop .b) (omega arith)) (pow-mono {j = 6} (omega arith));
+      short = rw (power-shifted 64 (c .before .before .before .loop .b) (omega arith)) (pow-mono {j = 6} (omega arith));
     }
 
 mul-many : tie.Need-mul-many Inv-loop μ-loop
@@ -70,7 +71,7 @@ loop-again c =
           (widened-passing _ _ _ _ inv (eq-eqb _ _ (w .0 .taken)) _ (w .2 .kept .0)
           (omega (arith, widened-room _ _ _ _ _ (given .room) (c .before .loop-test .taken) (eq-eqb _ _ (w .0 .taken)) (inv .counted), inv .same, given .long))
           (pow-mono {j = 6} (omega (arith, given .few)))
-          (w .2 .ensures ∙ ap (widened (take (c .before .before .loop .many) (c .before .before .loop .index))) (step-shifted (c .before .before .loop .b) (omega (arith, given .few))))),
+          (w .2 .ensures ∙ ap (widened (take (c .before .before .loop .many) (c .before .before .loop .index))) (power-shifted 64 (c .before .before .loop .b) (omega (arith, given .few))))),
     ))
     (λ w. (omega arith, rw (w .1, w .2) (widened-failing _ _ _ _ inv (ne-eqb _ _ (w .0 .left)))))
     (c .if1 .came)
