@@ -264,6 +264,16 @@ fn blocks() {
     above(ALL, 63);
 }
 
+// The one call that asks something of its caller: the copies must fit.
+fn copies() {
+    printing::say(b"copies w=0x0 b=0xff");
+    came(word::block::copies(0x0, 0xff));
+    printing::say(b"copies w=0x8001 b=0x5a");
+    came(word::block::copies(0x8001, 0x5a));
+    printing::say(b"copies w=0x101010101010101 b=0xff");
+    came(word::block::copies(0x101010101010101, 0xff));
+}
+
 pub(crate) fn words() {
     bits();
     sums();
@@ -272,4 +282,5 @@ pub(crate) fn words() {
     counts();
     sizes();
     blocks();
+    copies();
 }
