@@ -31,12 +31,7 @@ def read(raw):
         raise Refused(1)
     if raw[2] != 0 or raw[3] != 0 or any(v != 0 for v in levels[2 ** n:]):
         raise Refused(12)
-    if mask >> (2 ** n):
-        raise Refused(3)
-    if folding >> n:
-        raise Refused(4)
-    if ones(folding) > 3:
-        raise Refused(5)
+    check_tree(n, mask, folding)
     return n, folding, allowance, mask, levels
 
 

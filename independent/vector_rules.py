@@ -178,17 +178,22 @@ def listing(n, mask, levels):
     return LISTED[key]
 
 
-def decode(n, mask, folding, allowance, levels):
-    if not 1 <= n <= 6:
-        raise Refused(1)
-    if len(levels) != 2 ** n:
-        raise Refused(2)
+def check_tree(n, mask, folding):
+    """Refusals 3, 4, 5, which decoding and a record share."""
     if mask >> (2 ** n):
         raise Refused(3)
     if folding >> n:
         raise Refused(4)
     if ones(folding) > 3:
         raise Refused(5)
+
+
+def decode(n, mask, folding, allowance, levels):
+    if not 1 <= n <= 6:
+        raise Refused(1)
+    if len(levels) != 2 ** n:
+        raise Refused(2)
+    check_tree(n, mask, folding)
     for i, v in enumerate(levels):
         if not -1024 <= v <= 1024:
             raise Refused(6, slot=i)
