@@ -45,6 +45,10 @@ pub mod Deposits
 pub mod SeatGroups
 pub mod Blocks
 pub mod SeatedRow
+pub mod SeatedBlocks
+pub mod SeatSums
+pub mod Decided
+pub mod Copied
 pub mod SeatedDown
 pub mod SeatedFillings
 pub mod SeatedWalk
