@@ -46,7 +46,6 @@ pub mod SeatGroups
 pub mod Blocks
 pub mod SeatedRow
 pub mod SeatedBlocks
-pub mod SeatSums
 pub mod Decided
 pub mod Copied
 pub mod SeatedDown

@@ -6,11 +6,10 @@ use Rattle.word.proofs.wrong_size.Reads as wrong-size
 use Rattle.word.proofs.slots.Reads as slots
 use Rattle.word.proofs.bit.Reads as bit
 use Rattle.word.proofs.xor.Reads as xor
+use Rattle.word.proofs.common.Reads as common
 use Rattle.word.proofs.less.Reads as less
-use Rattle.word.proofs.block.block.Reads as block
-use Rattle.word.proofs.block.above.Reads as above
-use Rattle.word.proofs.block.copies.Reads as copies
-use Rattle.word.proofs.matrix.bytes.Reads as bytes
+use Rattle.word.proofs.place.above.Reads as above
+use Rattle.word.proofs.place.copies.Reads as copies
 use Rattle.word.proofs.matrix.map.Reads as map
 use Rattle.word.proofs.message.spread.Reads as spread
 use Rattle.word.proofs.message.gather.Reads as gather
@@ -32,20 +31,17 @@ bit-unique κs a r s v w p q = one-answer p q
 pub xor-unique : OneResult xor.Learnt
 xor-unique κs a r s v w p q = word-injective r s (one-answer p q)
 
+pub common-unique : OneResult common.Learnt
+common-unique κs a r s v w p q = word-injective r s (one-answer p q)
+
 pub less-unique : OneResult less.Learnt
 less-unique κs a r s v w p q = one-answer p q
-
-pub block-unique : OneResult block.Learnt
-block-unique κs a r s v w p q = one-answer p q
 
 pub above-unique : OneResult above.Learnt
 above-unique κs a r s v w p q = word-injective r s (one-answer p q)
 
 pub copies-unique : OneResult copies.Learnt
 copies-unique κs a r s v w p q = word-injective r s (one-answer p q)
-
-pub bytes-unique : OneResult bytes.Learnt
-bytes-unique κs a r s v w p q = one-answer p q
 
 pub map-unique : OneResult map.Learnt
 map-unique κs a r s v w p q = word-injective r s (one-answer p q)

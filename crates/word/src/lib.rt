@@ -1,14 +1,14 @@
-// Words of up to 64 bits: a bit, sums modulo 2, comparison and counts; below, the matrix map and messages.
-// Every public function but `block::copies` is total, and every contract reads a word through `wordOf`.
-pub mod block;
+// Words of up to 64 bits: a bit, sums modulo 2, common ones, comparison and counts; below, the matrix map and messages.
+// Every public function but `place::copies` is total, and every contract reads a word through `wordOf`.
 pub mod count;
 pub mod matrix;
 pub mod message;
+pub mod place;
 mod table;
 
 ghost use mathlib.Core.Path.{_≡_};
 ghost use Prim.Native.Nat.{_^_};
-ghost use lib.Bits.{bitXor};
+ghost use lib.Bits.{bitAnd, bitXor};
 ghost use lib.Dec.{ltb};
 ghost use Rattle.rules.specs.Word as rules;
 ghost use Rattle.rules.specs.Refusals.{isWrongSize};
@@ -43,6 +43,13 @@ pub fn xor(a: Word, b: Word) -> Word
     ensures { λ r. ⌜ wordOf r ≡ bitXor (wordOf a) (wordOf b) ⌝ }
 {
     a ^ b
+}
+
+// The ones that two words have in common.
+pub fn common(a: Word, b: Word) -> Word
+    ensures { λ r. ⌜ wordOf r ≡ bitAnd (wordOf a) (wordOf b) ⌝ }
+{
+    a & b
 }
 
 // Whether a is the smaller number.

@@ -6,8 +6,8 @@ ghost use Rattle.word.specs.Words.{wordOf, byteWords};
 use crate::Word;
 use crate::table::BYTES;
 
-// The codewords of all bytes, at n = 3. Naming the constant copies it, so whoever maps many bytes lends this table.
-pub fn bytes() -> [u8; 256]
+// The codewords of all bytes, at n = 3. Naming the constant copies it, so a word's bytes are mapped by one copy, lent.
+fn bytes() -> [u8; 256]
     ensures { λ r. ⌜ r ≡ byteWords ⌝ }
 {
     BYTES

@@ -1,12 +1,12 @@
--- `word::block::above` meets its contract: past the word nothing is left.
+-- `word::place::above` meets its contract: past the word nothing is left.
 use Prim.Native.Nat.{ℕ, _*_, _%_, _^_, _-_, _+_, _≤_}
 use mathlib.Core.Path.{_≡_, sym, _∙_, ap}
 use native.Mathlib.Nat.{mul-mod-left, mul-assoc}
 use native.Mathlib.Omega.{arith}
 use lib.Pow.{pow-add}
 use borrow.Author.Needs.{needs}
-use Rattle.word.proofs.block.above.Statement.{statement}
-use Rattle.word.proofs.block.above.Tie as tie
+use Rattle.word.proofs.place.above.Statement.{statement}
+use Rattle.word.proofs.place.above.Tie as tie
 
 -- what is moved past the word is a multiple of its size
 past : (b i : ℕ) → 64 ≤ i → b * 2 ^ i % 2 ^ 64 ≡ 0

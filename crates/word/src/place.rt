@@ -1,0 +1,21 @@
+// A word moved up, and copies of a word's bits at the ones of another.
+ghost use mathlib.Core.Path.{_≡_};
+ghost use Prim.Native.Nat.{_*_, _%_, _^_, _<_};
+ghost use Rattle.rules.specs.Refusals.{largest};
+ghost use Rattle.word.specs.Words.{wordOf};
+use crate::Word;
+
+// The word moved up, bit 0 to index i; what passes the word is lost.
+pub fn above(w: Word, i: usize) -> Word
+    ensures { λ r. ⌜ wordOf r ≡ wordOf w * 2 ^ i % 2 ^ (2 ^ largest) ⌝ }
+{
+    if i < 64 { w << i } else { 0 }
+}
+
+// A copy of one word's bits at each one of another; the copies must fit.
+pub fn copies(w: Word, b: Word) -> Word
+    requires { ⌜ wordOf w * wordOf b < 2 ^ (2 ^ largest) ⌝ }
+    ensures { λ r. ⌜ wordOf r ≡ wordOf w * wordOf b ⌝ }
+{
+    w * b
+}
