@@ -84,12 +84,15 @@ module _ (n f k : ℕ) (fits : f ≤ n) (hk : k < 2 ^ (n - f)) where
       block : (a : ℕ) → sumBelow (2 ^ f) (λ r. codeBit n (v * 2 ^ (k * 2 ^ f)) (a * 2 ^ f + r) * 2 ^ (a * 2 ^ f + r)) ≡ codeword f v * cond (covers a k) (2 ^ (a * 2 ^ f)) 0
       block a = sum-cong (2 ^ f) (λ r hr. ap₂ _*_ (block-code-bit v hv a r hr) (pow-add 2 (a * 2 ^ f) r)) ∙ own a (covers a k)
 
+  -- the codeword of a block's start: a one at the start of each block that k covers
+  pub block-start : codeword n (2 ^ (k * 2 ^ f)) ≡ sumBelow (2 ^ (n - f)) (λ a. cond (covers a k) (2 ^ (a * 2 ^ f)) 0)
+  unfolding copies
+  block-start = ap (codeword n) (sym (one-mul _)) ∙ copied 1 (pow-lt (pow-pos f)) ∙ rw (codeword-one f) (one-mul copies)
+
   -- the codeword of a block: its own codeword at each block that k covers
   pub block-code : (v : ℕ) → v < 2 ^ (2 ^ f) → codeword n (v * 2 ^ (k * 2 ^ f)) ≡ codeword f v * codeword n (2 ^ (k * 2 ^ f))
-  block-code v hv = copied v hv ∙ ap (λ (x : ℕ). codeword f v * x) (sym single)
-    where
-      single : codeword n (2 ^ (k * 2 ^ f)) ≡ copies
-      single = ap (codeword n) (sym (one-mul _)) ∙ copied 1 (pow-lt (pow-pos f)) ∙ rw (codeword-one f) (one-mul copies)
+  unfolding copies
+  block-code v hv = copied v hv ∙ ap (λ (x : ℕ). codeword f v * x) (sym block-start)
 
   -- and it has 2 ^ n bits
   pub block-code-lt : (v : ℕ) → v < 2 ^ (2 ^ f) → codeword f v * codeword n (2 ^ (k * 2 ^ f)) < 2 ^ (2 ^ n)

@@ -1,15 +1,17 @@
 -- A number's bits, lowest first, put at the places below m that pass a test.
 use Prim.Native.Nat.{ℕ, suc, _+_, _*_, _^_, _<_}
-use mathlib.Core.Path.{_≡_, refl, sym, _∙_}
+use mathlib.Core.Path.{_≡_, refl, sym, ap, _∙_}
+use mathlib.Core.Logic.{_≢_}
 use mathlib.Core.Bool.{Bool, true, false, cond}
-use native.Mathlib.Nat.{one-mul}
+use native.Mathlib.Nat.{add-comm, add-mul, zero-mul, one-mul, le-refl}
 use native.Mathlib.Decide.{decLt}
 use native.Mathlib.Omega.{arith}
 use Rattle.rules.specs.Below.{sumBelow, countBelow}
 use Rattle.rules.specs.Word.{bit}
-use Rattle.laws.specs.Bits.{bit-lt-two, bit-beyond, bit-within, bit-low, bit-ext-below, word-lt, word-bit}
+use Rattle.laws.specs.Sums.{sum-cong, sum-zero, sum-single, sum-add}
+use Rattle.laws.specs.Bits.{bit-lt-two, bit-zero, bit-pow-same, bit-pow-other, bit-put, bit-beyond, bit-within, bit-low, bit-ext-below, word-lt, word-bit}
 use Rattle.laws.specs.Highest.{Highest, highest-lt, highest-of}
-use Rattle.laws.specs.Places.{count-rises, count-onto}
+use Rattle.laws.specs.Places.{count-rises, count-inj, count-onto}
 
 -- the bit at place i
 abbrev pub depositBit : (ℕ → Bool) → ℕ → ℕ → ℕ
@@ -75,3 +77,37 @@ module _ (test : ℕ → Bool) (m : ℕ) where
   pub deposit-failing : (q : ℕ) → test m ≡ false → deposit test (suc m) q ≡ deposit test m q
   unfolding deposit sumBelow
   deposit-failing q t = rw t (omega arith)
+
+  -- nothing is deposited of 0
+  pub deposit-none : deposit test m 0 ≡ 0
+  unfolding deposit
+  deposit-none = sum-zero m (λ i _. go (test i) i)
+    where
+      go : (t : Bool) (i : ℕ) → cond t (bit 0 (countBelow i test)) 0 * 2 ^ i ≡ 0
+      go true i = rw (bit-zero (countBelow i test)) (zero-mul (2 ^ i))
+      go false i = zero-mul (2 ^ i)
+
+  -- a number's highest one is put apart from the rest
+  pub deposit-more : (b r : ℕ) → r < 2 ^ b → deposit test m (2 ^ b + r) ≡ deposit test m r + deposit test m (2 ^ b)
+  unfolding deposit
+  deposit-more b r h = sum-cong m (λ i _. ap (λ (x : ℕ). x * 2 ^ i) (go (test i) (countBelow i test)) ∙ add-mul _ _ (2 ^ i)) ∙ sum-add m _ _
+    where
+      go : (t : Bool) (j : ℕ) → cond t (bit (2 ^ b + r) j) 0 ≡ cond t (bit r j) 0 + cond t (bit (2 ^ b) j) 0
+      go true j = rw (add-comm (2 ^ b) r) (bit-put r b (bit-beyond h (le-refl b)) j)
+      go false j = refl
+
+  -- a single one is put at one place
+  pub deposit-pow : (b : ℕ) → b < countBelow m test → (c : ℕ) × (c < m) × (deposit test m (2 ^ b) ≡ 2 ^ c)
+  unfolding deposit
+  deposit-pow b l = (
+    at .0,
+    at .1,
+    sum-single m (at .0) (at .1) (λ i _ ne. rw (none i ne (test i) refl) (zero-mul (2 ^ i))) ∙ rw (at .2, at .3, bit-pow-same b) (one-mul _),
+  )
+    where
+      at : (c : ℕ) × (c < m) × (test c ≡ true) × (countBelow c test ≡ b)
+      at = count-onto test m b l
+
+      none : (i : ℕ) → i ≢ at .0 → (t : Bool) → test i ≡ t → depositBit test (2 ^ b) i ≡ 0
+      none i ne true t = rw t (bit-pow-other b (countBelow i test) (λ e. ne (count-inj test t (at .2) (e ∙ sym (at .3)))))
+      none i ne false t = rw t

@@ -46,6 +46,8 @@ pub mod SeatGroups
 pub mod Blocks
 pub mod SeatedRow
 pub mod SeatedBlocks
+pub mod SeatSums
+pub mod BlankBlocks
 pub mod Decided
 pub mod Copied
 pub mod SeatedDown

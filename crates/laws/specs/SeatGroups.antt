@@ -3,7 +3,7 @@ use Prim.Native.Nat.{ℕ, zero, suc, _+_, _-_, _*_, _/_, _%_, _^_, _≤_, _<_, z
 use mathlib.Core.Path.{_≡_, refl, sym, ap, _∙_}
 use mathlib.Core.Bool.{true}
 use mathlib.Core.List.{List, map, List·Memᴰ}
-use native.Mathlib.Nat.{eq-of-mul-eq-mul-right, mod-lt, div-lt-iff-lt-mul}
+use native.Mathlib.Nat.{add-zero, zero-add, eq-of-mul-eq-mul-right, mod-lt, div-lt-iff-lt-mul}
 use native.Mathlib.Omega.{arith}
 use lib.Pow.{pow-pos, split, high}
 use lib.Arith.{digits-lt}
@@ -16,7 +16,7 @@ use Rattle.laws.specs.SortedLists.{list-rising, rising-map, rising-uniqu
 use Rattle.laws.specs.Each.{each-at}
 use Rattle.laws.specs.Groups.{smallest-twice, groupNo-lt, groupNo-same}
 use Rattle.laws.specs.GroupSizes.{groups-all, groupNo-below, group-at, group-of, group-rising}
-use Rattle.laws.specs.Deposits.{deposit, deposit-lt, deposit-rises}
+use Rattle.laws.specs.Deposits.{deposit, deposit-lt, deposit-rises, deposit-none}
 use Rattle.laws.specs.Seats.{hasBit, seatIndex, outPart, ones-count, high-size, seat-at, seat-below, seat-onto, seat-smallest}
 
 -- a strictly rising map of the numbers below m into themselves moves none
@@ -32,12 +32,18 @@ rising-self m r rises below k l = omega (arith, low k l, top (m - suc k) k (omeg
     top (suc d) i e = omega (arith, top d (suc i) (omega arith), rises i (suc i) (omega arith) (omega arith))
 
 module _ (n F : ℕ) (fits : F < 2 ^ n) where
-  groups-pow : groups n F ≡ 2 ^ countBelow n (hasBit F 0)
+  -- the groups are the settings of the bits outside the folding
+  pub groups-pow : groups n F ≡ 2 ^ countBelow n (hasBit F 0)
   groups-pow = eq-of-mul-eq-mul-right (2 ^ ones F) (pow-pos (ones F)) _ _ (groups-all n F fits ∙ sym (high-size n F fits))
 
   -- each index of a group has a seat below 2 ^ n
   pub group-seat-lt : (k t : ℕ) → k < groups n F → t < 2 ^ ones F → k * 2 ^ ones F + t < 2 ^ n
   group-seat-lt k t hk ht = rw (groups-all n F fits) at (digits-lt hk ht)
+
+  -- the first seat of group k holds what k gives to the bits outside the folding
+  pub seat-start : (k : ℕ) → k < groups n F → seatIndex n F (k * 2 ^ ones F) ≡ deposit (hasBit F 0) n k
+  seat-start k l =
+      rw (add-zero, deposit-none (hasBit F 1) n, zero-add) at (seat-at n F fits k 0 (rw (← groups-pow) l) (pow-pos (ones F)))
 
   -- the number of the group of that smallest index
   number : ℕ → ℕ

@@ -1,14 +1,16 @@
 -- Words in seat order: bit p of a word in seat order is the bit at the index of seat p, and the matrix map is the same in both.
-use Prim.Native.Nat.{ℕ, suc, _+_, _*_, _%_, _^_, _≤_, _<_}
+use Prim.Native.Nat.{ℕ, suc, _+_, _*_, _%_, _^_, _≤_, _<_, min}
 use mathlib.Core.Path.{_≡_, sym, ap, ap₂, _∙_}
 use mathlib.Core.Bool.{Bool, cond}
-use native.Mathlib.Nat.{add-mul, zero-mul, le-refl, le-trans, le-of-lt}
+use native.Mathlib.Nat.{add-mul, zero-mul, one-mul, le-refl, le-trans, le-of-lt}
 use native.Mathlib.Omega.{arith}
-use lib.Bits.{bitXor}
+use lib.Bits.{bitAnd, bitXor, and-le-r}
+use lib.Count.{ones}
 use Rattle.rules.specs.Below.{sumBelow}
 use Rattle.rules.specs.Word.{bit, covers, codeBit}
-use Rattle.laws.specs.Sums.{sum-cong, sum-zero, sum-add}
-use Rattle.laws.specs.Bits.{bit-lt-two, bit-zero, bit-beyond, bit-add, bit-ext-below, word-lt, word-bit, small-of-bits}
+use Rattle.laws.specs.Sums.{sum-cong, sum-zero, sum-single, sum-add}
+use Rattle.laws.specs.Bits.{bit-lt-two, bit-zero, bit-beyond, bit-and, bit-pow-same, bit-pow-other, bit-add, bit-ext-below, word-lt, word-bit, small-of-bits}
+use Rattle.laws.specs.Counts.{ones-sum}
 use Rattle.laws.specs.Placed.{Apart, xor-single, placed-at, placed-other, sum-permuted}
 use Rattle.laws.specs.Seats.{seatIndex, seat-below, seat-covers, seat-inj, seat-onto}
 
@@ -57,6 +59,11 @@ module _ (n F : ℕ) where
   unfolding unseat
   unseat-zero = sum-zero (2 ^ n) (λ p _. rw (bit-zero p) (zero-mul _))
 
+  -- a single one goes to its seat's index
+  pub unseat-pow : (p : ℕ) → p < 2 ^ n → unseat n F (2 ^ p) ≡ 2 ^ seatIndex n F p
+  unfolding unseat
+  unseat-pow p l = sum-single (2 ^ n) p l (λ q _ ne. rw (bit-pow-other p q ne) (zero-mul _)) ∙ rw (bit-pow-same p) (one-mul _)
+
 module _ (n F : ℕ) (fits : F < 2 ^ n) where
   apart : (m : ℕ) → m ≤ 2 ^ n → Apart m (seatIndex n F)
   apart m l p q hp hq = seat-inj n F fits p q (le-trans hp l) (le-trans hq l)
@@ -83,12 +90,25 @@ module _ (n F : ℕ) (fits : F < 2 ^ n) where
   pub seat-unseat : (w : ℕ) → w < 2 ^ (2 ^ n) → seat n F (unseat n F w) ≡ w
   seat-unseat w h = bit-ext-below (2 ^ n) (seat-lt n F _) h (λ p l. seat-bit n F (unseat n F w) p l ∙ unseat-bit w p l)
 
-  by-seats : (a b : ℕ) → a < 2 ^ (2 ^ n) → b < 2 ^ (2 ^ n) → ((p : ℕ) → p < 2 ^ n → bit a (seatIndex n F p) ≡ bit b (seatIndex n F p)) → a ≡ b
+  -- words with the same bit at each seat's index are equal
+  pub by-seats : (a b : ℕ) → a < 2 ^ (2 ^ n) → b < 2 ^ (2 ^ n) → ((p : ℕ) → p < 2 ^ n → bit a (seatIndex n F p) ≡ bit b (seatIndex n F p)) → a ≡ b
   by-seats a b ha hb h = bit-ext-below (2 ^ n) ha hb (λ i l. let r = seat-onto n F fits i l in rw (r .2) at (h (r .0) (r .1)))
 
   -- out of seat order after into it
   pub unseat-seat : (w : ℕ) → w < 2 ^ (2 ^ n) → unseat n F (seat n F w) ≡ w
   unseat-seat w h = by-seats _ w (unseat-lt (seat n F w)) h (λ p l. unseat-bit (seat n F w) p l ∙ seat-bit n F w p l)
+
+  -- an and with a word out of seat order
+  pub and-unseat : (v w : ℕ) → bitAnd v (unseat n F w) ≡ unseat n F (bitAnd (seat n F v) w)
+  and-unseat v w = by-seats _ _ (omega (arith, and-le-r v (unseat n F w), unseat-lt w)) (unseat-lt (bitAnd (seat n F v) w)) (λ p l.
+      bit-and v (unseat n F w) (seatIndex n F p) ∙ ap₂ min (sym (seat-bit n F v p l)) (unseat-bit w p l)
+      ∙ sym (bit-and (seat n F v) w p) ∙ sym (unseat-bit (bitAnd (seat n F v) w) p l))
+
+  -- as many ones in either order
+  pub unseat-ones : (w : ℕ) → w < 2 ^ (2 ^ n) → ones (unseat n F w) ≡ ones w
+  unseat-ones w h = ones-sum (2 ^ n) (unseat n F w) (unseat-lt w)
+      ∙ sym (sum-permuted (2 ^ n) (seatIndex n F) (seat-below n F fits) (apart (2 ^ n) (le-refl _)) (seat-onto n F fits) (bit (unseat n F w)))
+      ∙ sum-cong (2 ^ n) (unseat-bit w) ∙ sym (ones-sum (2 ^ n) w h)
 
   -- the matrix map in seat order, bit by bit
   pub unseat-code-bit : (w p : ℕ) → p < 2 ^ n → codeBit n (unseat n F w) (seatIndex n F p) ≡ codeBit n w p

@@ -1,24 +1,23 @@
 -- A block in seat order, put back in index order, is block 0 put back and moved up to the group's smallest index.
 use Prim.Native.Nat.{ℕ, suc, _+_, _-_, _*_, _^_, _≤_, _<_, min}
 use mathlib.Core.Path.{_≡_, sym, ap, ap₂, _∙_}
-use mathlib.Core.Bool.{Bool, true, false, cond}
-use native.Mathlib.Nat.{add-zero, zero-add, zero-mul, mul-comm, mul-one, mul-assoc, suc-mul, mul-le-mul-right, eq-of-mul-eq-mul-right}
+use native.Mathlib.Nat.{add-zero, zero-add, zero-mul, mul-comm, mul-one, mul-assoc, suc-mul, mul-le-mul-right}
 use native.Mathlib.Decide.{decLt}
 use native.Mathlib.Omega.{arith}
 use lib.Bits.{bitAnd}
 use lib.Pow.{pow-pos, pow-add}
 use lib.Count.{ones}
-use Rattle.rules.specs.Below.{sumBelow, countBelow}
+use Rattle.rules.specs.Below.{sumBelow}
 use Rattle.rules.specs.Word.{bit}
 use Rattle.rules.specs.Folding.{groups}
 use Rattle.laws.specs.Sums.{sum-cong, sum-zero, sum-split, sum-mul}
 use Rattle.laws.specs.Bits.{bit-high, bit-beyond, bit-zero, bit-and, bit-ext}
 use Rattle.laws.specs.GroupSizes.{groups-all}
-use Rattle.laws.specs.Deposits.{deposit}
+use Rattle.laws.specs.Deposits.{deposit-none}
 use Rattle.laws.specs.Blocks.{block-bit, block-below, block-above}
-use Rattle.laws.specs.Seats.{hasBit, seatIndex, high-size, seat-at, seat-onto}
+use Rattle.laws.specs.Seats.{hasBit, seatIndex, seat-at, seat-onto}
 use Rattle.laws.specs.SeatWords.{seat, unseat, seat-bit, unseat-bit, unseat-lt}
-use Rattle.laws.specs.SeatGroups.{group-seat-lt}
+use Rattle.laws.specs.SeatGroups.{groups-pow, group-seat-lt, seat-start}
 use Rattle.laws.specs.SeatedRow.{blockOf}
 
 -- a sum whose terms are zero outside a window
@@ -29,30 +28,13 @@ sum-window a s r f before after =
     (sum-split s r (λ i. f (a + i)) ∙ ap (λ (y : ℕ). sumBelow s (λ i. f (a + i)) + y) (sum-zero r (λ i l. after (a + (s + i)) (omega arith))))
     ∙ omega arith
 
--- nothing is deposited of 0
-deposit-none : (test : ℕ → Bool) (m : ℕ) → deposit test m 0 ≡ 0
-unfolding deposit
-deposit-none test m = sum-zero m (λ i l. go (test i) i)
-  where
-    go : (t : Bool) (i : ℕ) → cond t (bit 0 (countBelow i test)) 0 * 2 ^ i ≡ 0
-    go true i = rw (bit-zero (countBelow i test)) (zero-mul (2 ^ i))
-    go false i = zero-mul (2 ^ i)
-
 module _ (n F : ℕ) (fits : F < 2 ^ n) (k v : ℕ) (inside : k < groups n F) (small : v < 2 ^ (2 ^ ones F)) where
   -- the index at seat t of a group is that of seat t of group 0, moved up by the group's smallest index
   pub seat-moved : (t : ℕ) → t < 2 ^ ones F → seatIndex n F (k * 2 ^ ones F + t) ≡ seatIndex n F t + seatIndex n F (k * 2 ^ ones F)
   seat-moved t l =
-      let many : groups n F ≡ 2 ^ countBelow n (hasBit F 0) = eq-of-mul-eq-mul-right (2 ^ ones F) (pow-pos (ones F)) _ _ (groups-all n F fits ∙ sym (high-size n F fits)) in
-      let here = seat-at n F fits k t (rw (← many) inside) l in
-      let first = seat-at n F fits k 0 (rw (← many) inside) (pow-pos (ones F)) in
-      let lowest = seat-at n F fits 0 t (rw (← many) (omega (arith, inside))) l in
-      here ∙ omega (
-        arith,
-        rw (add-zero (k * 2 ^ ones F)) at first,
-        rw (zero-mul (2 ^ ones F), zero-add t) at lowest,
-        deposit-none (hasBit F 1) n,
-        deposit-none (hasBit F 0) n,
-      )
+      let here = seat-at n F fits k t (rw (← groups-pow n F fits) inside) l in
+      let lowest = seat-at n F fits 0 t (rw (← groups-pow n F fits) (omega (arith, inside))) l in
+      here ∙ omega (arith, seat-start n F fits k inside, rw (zero-mul (2 ^ ones F), zero-add t) at lowest, deposit-none (hasBit F 0) n)
 
   block-sum : unseat n F (v * 2 ^ (k * 2 ^ ones F)) ≡ sumBelow (2 ^ ones F) (λ t. bit v t * 2 ^ seatIndex n F (k * 2 ^ ones F + t))
   unfolding unseat
