@@ -1,21 +1,20 @@
--- Refusal 7's test: the first level of the tree that has no candidate, found from the frozen mask in seat order.
-use Prim.Native.Nat.{ℕ, suc, _-_, _^_, _≤_, _<_}
+-- Refusal 7's test: the first level of the tree that has no candidate, found from each group's frozen indices.
+use Prim.Native.Nat.{ℕ, suc, _-_, _≤_, _<_}
 use mathlib.Core.Path.{_≡_}
 use mathlib.Core.Bool.{Bool}
 use mathlib.Core.Option.{Option, none, some}
+use mathlib.Core.List.{List}
 use lib.Count.{ones}
+use lib.ListN.{getD}
 use Rattle.rules.specs.Below.{firstBelow}
 use Rattle.rules.specs.Folding as rules
 use Rattle.rules.specs.Walk.{fillings}
 use Rattle.rules.specs.Refusals.{isEmpty}
-use Rattle.laws.specs.SeatWords.{seat}
+use Rattle.tree.specs.declared.group.Groups.{Groups}
 
--- a word is a mask in seat order, in the groups of a folding
-pub record Grouped (n mask folding frozen groups size : ℕ) : Type 0 where
-  pub fits : folding < 2 ^ n
-  pub sized : size ≡ 2 ^ ones folding
-  pub all : groups ≡ rules.groups n folding
-  pub seated : frozen ≡ seat n folding mask
+-- no group has more frozen indices than indices
+abbrev pub FewShut : List ℕ → Groups → Type 0
+FewShut l g = (k : ℕ) → k < g .count → ones (getD l k 0) ≤ g .size
 
 -- whether the group that level t decides has no filling
 abbrev pub isEmptyLevel : ℕ → ℕ → ℕ → ℕ → Bool

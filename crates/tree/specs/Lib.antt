@@ -1,4 +1,5 @@
 pub mod Seating
+pub mod Grouping
 pub mod Tables
 pub mod Costs
 pub mod Empty

@@ -1,11 +1,9 @@
--- What the steps that build the seats ask of the indices so far, and what a list of seats and one of covered groups hold.
+-- What the steps that build the seats ask of the indices so far, and what a list of seats holds.
 use Prim.Native.Nat.{ℕ, _+_, _*_, _^_, _≤_, _<_}
 use mathlib.Core.List.{List}
 use mathlib.Core.Path.{_≡_}
 use lib.ListN.{length, getD, take}
 use Rattle.rules.specs.Below.{countBelow}
-use Rattle.rules.specs.Word.{codeword}
-use Rattle.rules.specs.Refusals.{largest}
 use Rattle.laws.specs.Seats.{hasBit, seats}
 
 -- the first m of a list are at most c
@@ -31,7 +29,3 @@ pub record Seated (l : List ℕ) (n folding : ℕ) : Type 0 where
   pub few : n ≤ 6
   pub fits : folding < 2 ^ n
   pub listed : take (2 ^ n) l ≡ seats n folding
-
--- for each of the groups, a one at the first seat of each group that it covers
-abbrev pub Covered : List ℕ → ℕ → ℕ → Type 0
-Covered l groups size = (k : ℕ) → k < groups → getD l k 0 ≡ codeword largest (2 ^ (k * size))

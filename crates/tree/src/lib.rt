@@ -1,6 +1,7 @@
 // Decoding by the folded tree: the least word of received levels, under every folding.
 mod cost;
 mod empty;
+mod group;
 mod row;
 mod seat;
 mod state;
@@ -11,7 +12,6 @@ ghost use Rattle.rules.specs.Answers.{decodeAnswer};
 ghost use Rattle.word.specs.Words.{wordOf};
 ghost use Rattle.tree.specs.Reading.{answerOf};
 ghost use Rattle.tree.specs.Search.{Searchable, searchAnswer};
-use crate::walk::Tree;
 use refusal::Refusal;
 use word::Word;
 
@@ -34,25 +34,17 @@ fn search(n: u32, levels: &[i32], frozen: Word, folding: u32, allowance: u32) ->
     requires { ⌜ Searchable n (now levels) folding ⌝ }
     ensures { λ r. ⌜ answerOf r ≡ searchAnswer n (now (levels .entry)) (wordOf frozen) folding allowance ⌝ }
 {
-    let size: usize = 1 << word::count::folding_size(folding);
-    let groups = levels.len() / size;
+    let groups = group::all_groups(n, folding);
     let index = seat::seats(n, folding);
-    let seated = seat::seated(&index, n, folding, frozen);
-    let empty = empty::first_empty(seated, groups, size);
-    if empty < groups {
+    let shut = group::shut(&index, groups, frozen);
+    let empty = empty::first_empty(&shut, groups);
+    if empty < groups.count {
         return Answer::Refused(Refusal::NoCandidate(empty));
     }
-    let rows = row::rows(levels, &index, groups, size);
-    let covered = seat::covered(groups, size);
-    let tree = Tree {
-        n,
-        folding,
-        size,
-        frozen: seated,
-        allowance: allowance as u64,
-    };
-    let bytes = word::matrix::bytes();
-    let end = walk::walk(&rows, &index, &covered, &bytes, tree, groups);
+    let rows = row::rows(levels, &index, groups.count, groups.size);
+    let change = group::changes(&index, groups);
+    let covered = group::covered(&index, groups);
+    let end = walk::walk(&rows, &change, &covered, &shut, groups, allowance as u64);
     if state::used_up(end, allowance as u64) {
         return Answer::Refused(Refusal::Allowance);
     }

@@ -13,21 +13,14 @@ ghost use Rattle.laws.specs.Decided.{decided};
 ghost use Rattle.word.specs.Words.{wordOf};
 ghost use Rattle.tree.specs.States.{empty, stateOf};
 ghost use Rattle.tree.specs.Tables.{Inside, entryAt};
-ghost use Rattle.tree.specs.Nodes.{Tables, Given, rowCandidates};
+ghost use Rattle.tree.specs.Nodes.{Tabled, Given, rowCandidates};
+use crate::group::Groups;
 use crate::state::Walked;
 use crate::state::farther;
 use crate::state::keep_word;
 use crate::state::start;
 use crate::state::used_up;
 use word::Word;
-
-// What every node of one tree shares: n, the folding, how many indices a group has, and how many visits are allowed.
-pub(crate) struct Tree {
-    pub(crate) n: u32,
-    pub(crate) folding: u32,
-    pub(crate) size: usize,
-    pub(crate) allowance: u64,
-}
 
 // Entry j of the sorted row of group k.
 fn entry(rows: &[[u64; 256]; 8], size: usize, k: usize, j: usize) -> u64
@@ -62,20 +55,21 @@ fn node(
     change: &[Word; 256],
     covered: &[Word; 64],
     shut: &[Word; 64],
-    tree: Tree,
+    groups: Groups,
+    allowance: u64,
     left: usize,
     partial: u64,
     w: Word,
     state: Walked,
 ) -> Walked
-    requires { ⌜ Given (now rows) (now change) (now covered) (now shut) tree left partial (wordOf w) state ⌝ }
-    ensures { λ r. ⌜ stateOf (tree .allowance) r ≡ walkIn keepBest (tree .allowance) (rowCandidates (now (rows .entry)) (now (shut .entry)) tree) left partial (decided (tree .n) (tree .folding) left (wordOf w)) (stateOf (tree .allowance) state) ⌝ }
+    requires { ⌜ Given (now rows) (now change) (now covered) (now shut) groups allowance left partial (wordOf w) state ⌝ }
+    ensures { λ r. ⌜ stateOf allowance r ≡ walkIn keepBest allowance (rowCandidates (now (rows .entry)) (now (shut .entry)) groups) left partial (decided (groups .n) (groups .folding) left (wordOf w)) (stateOf allowance state) ⌝ }
 {
     if left == 0 {
         return keep_word(state, partial, w);
     }
     let k = left - 1;
-    let size = tree.size;
+    let size = groups.size;
     let entries: usize = 1 << size;
     let mut s = state;
     let mut j = 0;
@@ -84,15 +78,15 @@ fn node(
         let next = changed(w, change, covered, k, e);
         if is_open(next, shut[k]) {
             s.visits = s.visits + 1;
-            if used_up(s, tree.allowance) {
+            if used_up(s, allowance) {
                 return s;
             }
             let total = partial + e / 256;
             if farther(s, total) {
                 return s;
             }
-            s = node(rows, change, covered, shut, tree, k, total, next, s);
-            if used_up(s, tree.allowance) {
+            s = node(rows, change, covered, shut, groups, allowance, k, total, next, s);
+            if used_up(s, allowance) {
                 return s;
             }
         }
@@ -107,11 +101,11 @@ pub(crate) fn walk(
     change: &[Word; 256],
     covered: &[Word; 64],
     shut: &[Word; 64],
-    tree: Tree,
-    left: usize,
+    groups: Groups,
+    allowance: u64,
 ) -> Walked
-    requires { ⌜ Tables (now rows) (now change) (now covered) (now shut) tree left ⌝ }
-    ensures { λ r. ⌜ stateOf (tree .allowance) r ≡ walkIn keepBest (tree .allowance) (rowCandidates (now (rows .entry)) (now (shut .entry)) tree) left 0 0 (some empty) ⌝ }
+    requires { ⌜ Tabled (now rows) (now change) (now covered) (now shut) groups × (allowance < 2 ^ 32) ⌝ }
+    ensures { λ r. ⌜ stateOf allowance r ≡ walkIn keepBest allowance (rowCandidates (now (rows .entry)) (now (shut .entry)) groups) (groups .count) 0 0 (some empty) ⌝ }
 {
-    node(rows, change, covered, shut, tree, left, 0, 0, start())
+    node(rows, change, covered, shut, groups, allowance, groups.count, 0, 0, start())
 }

@@ -1,0 +1,36 @@
+-- The groups of a folding as the code holds them, and what its tables hold for each group or pattern.
+use Prim.Native.Nat.{ℕ, _+_, _*_, _^_, _≤_, _<_}
+use mathlib.Core.Path.{_≡_}
+use mathlib.Core.List.{List}
+use lib.Bits.{bitXor}
+use lib.Count.{ones}
+use lib.ListN.{getD}
+use Rattle.rules.specs.Folding as rules
+use Rattle.laws.specs.Decided.{changeOf, shutOf}
+use Rattle.laws.specs.Copied.{spreadOf}
+use Rattle.tree.specs.declared.group.Groups.{Groups}
+
+-- n up to 6, a folding of at most three ones, the size of its groups and their number
+pub record Grouped (g : Groups) : Type 0 where
+  pub small : g .n ≤ 6
+  pub fits : g .folding < 2 ^ (g .n)
+  pub few : ones (g .folding) ≤ 3
+  pub sized : g .size ≡ 2 ^ ones (g .folding)
+  pub all : g .count ≡ rules.groups (g .n) (g .folding)
+
+-- for each group, the codeword of its smallest index alone
+abbrev pub Covered : List ℕ → Groups → Type 0
+Covered l g = (k : ℕ) → k < g .count → getD l k 0 ≡ spreadOf (g .n) (g .folding) k
+
+-- for each group, its indices that are frozen in a mask
+abbrev pub Shut : List ℕ → Groups → ℕ → Type 0
+Shut l g mask = (k : ℕ) → k < g .count → getD l k 0 ≡ shutOf (g .n) (g .folding) mask k
+
+-- the first m words, and behind them once more with a word added to each
+pub record Doubled (before after : List ℕ) (m column : ℕ) : Type 0 where
+  pub kept : (u : ℕ) → u < m → getD after u 0 ≡ getD before u 0
+  pub added : (u : ℕ) → u < m → getD after (m + u) 0 ≡ bitXor (getD before u 0) column
+
+-- for each pattern, the word whose codeword has it in group 0 and zeros elsewhere
+abbrev pub Changes : List ℕ → Groups → Type 0
+Changes l g = (u : ℕ) → u < 2 ^ (g .size) → getD l u 0 ≡ changeOf (g .n) (g .folding) 0 u

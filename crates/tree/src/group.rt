@@ -1,0 +1,114 @@
+// The groups of a folding, and what the walk reads of each: what its patterns change in the word, and its frozen indices.
+// Words are in index order; seats only say which indices a group has.
+ghost use mathlib.Core.Path.{_≡_};
+ghost use Prim.Native.Nat.{_+_, _-_, _^_, _≤_, _<_};
+ghost use lib.Count.{ones};
+ghost use lib.ListN.{length};
+ghost use Rattle.laws.specs.SeatWords.{unseat};
+ghost use Rattle.word.specs.Words.{wordOf};
+ghost use Rattle.tree.specs.Seating.{Seated};
+ghost use Rattle.tree.specs.Grouping.{Grouped, Covered, Shut, Doubled, Changes};
+use word::Word;
+
+// n, the folding, how many indices a group has, and how many groups there are.
+pub(crate) struct Groups {
+    pub(crate) n: u32,
+    pub(crate) folding: u32,
+    pub(crate) size: usize,
+    pub(crate) count: usize,
+}
+
+// All groups of a folding.
+pub(crate) fn all_groups(n: u32, folding: u32) -> Groups
+    requires { ⌜ (n ≤ 6) × (folding < 2 ^ n) × (ones folding ≤ 3) ⌝ }
+    ensures { λ r. ⌜ (r .n ≡ n) × (r .folding ≡ folding) × Grouped r ⌝ }
+{
+    let size: usize = 1 << word::count::folding_size(folding);
+    let count = word::slots(n) / size;
+    Groups {
+        n,
+        folding,
+        size,
+        count,
+    }
+}
+
+// For each group, the codeword of its smallest index alone: a one at the smallest index of each group that it covers.
+// It is that of the group without its highest one bit, and the same moved up by the smallest index that this bit has alone.
+pub(crate) fn covered(index: &[usize; 64], groups: Groups) -> [Word; 64]
+    requires { ⌜ Grouped groups × Seated (now index) (groups .n) (groups .folding) ⌝ }
+    ensures { λ r. ⌜ Covered r groups ⌝ }
+{
+    let mut r = [0u64; 64];
+    r[0] = 1;
+    let mut highest = 1;
+    let mut k = 1;
+    while k < groups.count {
+        if k == highest * 2 {
+            highest = k;
+        }
+        let rest = r[k - highest];
+        let first = highest * groups.size;
+        r[k] = word::xor(rest, word::place::above(rest, index[first]));
+        k += 1;
+    }
+    r
+}
+
+// The indices of group 0, a one at each.
+fn first_group(index: &[usize; 64], groups: Groups) -> Word
+    requires { ⌜ Grouped groups × Seated (now index) (groups .n) (groups .folding) ⌝ }
+    ensures { λ r. ⌜ wordOf r ≡ unseat (groups .n) (groups .folding) (2 ^ (groups .size) - 1) ⌝ }
+{
+    let mut r: Word = 0;
+    let mut t = 0;
+    while t < groups.size {
+        r = word::xor(r, word::place::above(1, index[t]));
+        t += 1;
+    }
+    r
+}
+
+// The frozen indices of each group.
+pub(crate) fn shut(index: &[usize; 64], groups: Groups, frozen: Word) -> [Word; 64]
+    requires { ⌜ Grouped groups × Seated (now index) (groups .n) (groups .folding) ⌝ }
+    ensures { λ r. ⌜ Shut r groups (wordOf frozen) ⌝ }
+{
+    let own = first_group(index, groups);
+    let mut r = [0u64; 64];
+    let mut k = 0;
+    while k < groups.count {
+        let first = k * groups.size;
+        r[k] = word::common(frozen, word::place::above(own, index[first]));
+        k += 1;
+    }
+    r
+}
+
+// The first m words once more behind them, each with a word added.
+fn double_words(words: &mut [Word], m: usize, column: Word)
+    requires { ⌜ m + m ≤ length (now words) ⌝ }
+    ensures { λ _. ⌜ Doubled (now (words .entry)) (now (words .exit)) m (wordOf column) ⌝ }
+{
+    let mut u = 0;
+    while u < m {
+        words[m + u] = word::xor(words[u], column);
+        u += 1;
+    }
+}
+
+// For each pattern, the word whose codeword has it in group 0 and zeros elsewhere.
+// One slot more doubles the patterns: to those with its bit the codeword of its index is added.
+pub(crate) fn changes(index: &[usize; 64], groups: Groups) -> [Word; 256]
+    requires { ⌜ Grouped groups × Seated (now index) (groups .n) (groups .folding) ⌝ }
+    ensures { λ r. ⌜ Changes r groups ⌝ }
+{
+    let mut r = [0u64; 256];
+    let mut t = 0;
+    while t < groups.size {
+        let column = word::matrix::map(word::place::above(1, index[t]));
+        double_words(&mut r, 1 << t, column);
+        t += 1;
+    }
+    r
+}
