@@ -1,13 +1,15 @@
--- A level has no candidate exactly where the number of its group's fillings, counted in seat order, is 0.
-use Prim.Native.Nat.{ℕ, suc, _+_, _-_, _*_, _/_, _%_, _^_, _≤_, _<_, min, zero-le}
+-- A level has no candidate exactly where the number of its group's fillings, counted from its frozen indices, is 0.
+use Prim.Native.Nat.{ℕ, suc, _+_, _-_, _^_, _≤_, _<_, zero-le}
 use mathlib.Core.Path.{_≡_, refl, sym, ap, _∙_}
 use mathlib.Core.Bool.{false}
 use mathlib.Core.List.{List, [], _∷_}
+use native.Mathlib.Nat.{mod-lt}
 use native.Mathlib.Decide.{ℕ-discrete}
 use native.Mathlib.Omega.{arith}
-use lib.Count.{ones}
+use lib.Count.{ones, ones-le}
 use lib.Dec.{eqb}
-use lib.ListN.{length}
+use lib.ListN.{length, getD}
+use lib.Pow.{pow-pos, pow-mono}
 use borrow.Author.Tests.{eq-eqb, ne-eqb}
 use Rattle.rules.specs.Folding as rules
 use Rattle.rules.specs.Walk.{fillings}
@@ -15,79 +17,96 @@ use Rattle.rules.specs.Refusals.{isEmpty}
 use Rattle.laws.specs.Sums.{none-of, some-of}
 use Rattle.laws.specs.FillingNumber.{group-fillings}
 use Rattle.laws.specs.SeatedRow.{blockOf}
+use Rattle.laws.specs.SeatedDown.{groups-blocks}
 use Rattle.laws.specs.SeatWords.{seat}
-use Rattle.tree.specs.Empty.{Grouped, FirstEmpty, isEmptyLevel}
+use Rattle.laws.specs.Copied.{shut-ones}
+use Rattle.tree.specs.declared.group.Groups.{Groups}
+use Rattle.tree.specs.Grouping.{Grouped, Shut}
+use Rattle.tree.specs.Empty.{FewShut, FirstEmpty, isEmptyLevel}
 
 -- a list is empty where its length is 0
 empty-length : (l : List ℕ) → isEmpty l ≡ eqb (length l) 0
 empty-length [] = refl
 empty-length (x ∷ xs) = sym (ne-eqb (suc (length xs)) 0 (λ e. omega arith))
 
--- what the code reads of a level: the frozen bits of its group, and how many fillings they leave
-pub record Read (frozen groups size level shut many : ℕ) : Type 0 where
-  pub inside : level < groups
-  pub narrow : size ≤ 8
-  pub bits : shut ≡ frozen / 2 ^ ((groups - 1 - level) * size) % 2 ^ min size 8
-  pub number : many ≡ 2 ^ (size - ones shut)
+-- what the code reads of a level: the frozen indices of its group, and how many fillings they leave
+pub record Read (l : List ℕ) (g : Groups) (level shut many : ℕ) : Type 0 where
+  pub inside : level < g .count
+  pub word : shut ≡ getD l (g .count - 1 - level) 0
+  pub number : many ≡ 2 ^ (g .size - ones shut)
 
 -- no level before this one is empty
-pub record Passed (frozen groups size level : ℕ) : Type 0 where
-  pub inside : level ≤ groups
-  pub full : (n mask folding : ℕ) → Grouped n mask folding frozen groups size → (t : ℕ) → t < level → isEmptyLevel n mask folding t ≡ false
+pub record Passed (l : List ℕ) (g : Groups) (level : ℕ) : Type 0 where
+  pub inside : level ≤ g .count
+  pub full : (mask : ℕ) → Shut l g mask → (t : ℕ) → t < level → isEmptyLevel (g .n) mask (g .folding) t ≡ false
 
-module _ {frozen groups size : ℕ} where
+module _ {g : Groups} (given : Grouped g) where
+  -- a group has 8 indices at most
+  pub size-small : g .size ≤ 8
+  size-small = rw (given .sized) (pow-mono {j = 3} (given .few))
+
+  -- and there are 64 groups at most
+  pub count-small : g .count ≤ 64
+  count-small = rw (given .all, groups-blocks (g .n) (g .folding) (given .fits)) (pow-mono {j = 6} (omega (arith, given .small)))
+
+  -- a group's frozen indices are as many as in seat order
+  seated-ones : (l : List ℕ) (mask : ℕ) → Shut l g mask → (k : ℕ) → k < g .count
+      → ones (getD l k 0) ≡ ones (blockOf (2 ^ ones (g .folding)) k (seat (g .n) (g .folding) mask))
+  seated-ones l mask shut k h = ap ones (shut k h) ∙ shut-ones (g .n) (g .folding) (given .fits) mask k (rw (given .all) at h)
+
+  -- so they are no more than its indices
+  pub few-shut : (l : List ℕ) (mask : ℕ) → Shut l g mask → FewShut l g
+  few-shut l mask shut k h =
+      rw (seated-ones l mask shut k h, given .sized) (ones-le (2 ^ ones (g .folding)) _ (mod-lt _ (pow-pos (2 ^ ones (g .folding)))))
+
+module _ {l : List ℕ} {g : Groups} (given : Grouped g) where
   -- the level is empty exactly where the code's number is 0
-  level-empty : {level shut many : ℕ} (n mask folding : ℕ) → Grouped n mask folding frozen groups size → Read frozen groups size level shut many
-      → isEmptyLevel n mask folding level ≡ eqb many 0
-  level-empty {level} {shut} {many} n mask folding given read =
-      empty-length (fillings mask (rules.group n folding k)) ∙ ap (λ (m : ℕ). eqb m 0) (group-fillings n mask folding k (given .fits) inside ∙ sym counted)
+  level-empty : {level word many : ℕ} → Read l g level word many → (mask : ℕ) → Shut l g mask → isEmptyLevel (g .n) mask (g .folding) level ≡ eqb many 0
+  level-empty {level} {word} {many} read mask shut =
+      empty-length (fillings mask (rules.group (g .n) (g .folding) k))
+      ∙ ap (λ (m : ℕ). eqb m 0) (group-fillings (g .n) mask (g .folding) k (given .fits) inside ∙ sym counted)
     where
       k : ℕ
-      k = rules.groups n folding - suc level
+      k = rules.groups (g .n) (g .folding) - suc level
 
-      inside : k < rules.groups n folding
+      inside : k < rules.groups (g .n) (g .folding)
       inside = omega (arith, given .all, read .inside)
 
-      block : shut ≡ blockOf (2 ^ ones folding) k (seat n folding mask)
-      block =
-          let own : groups - 1 - level ≡ k = omega (arith, given .all) in
-          let whole : min size 8 ≡ size = omega (arith, read .narrow) in
-          rw (read .bits, own, whole, given .sized, given .seated)
+      own : g .count - 1 - level ≡ k
+      own = omega (arith, given .all)
 
-      counted : many ≡ 2 ^ (2 ^ ones folding - ones (blockOf (2 ^ ones folding) k (seat n folding mask)))
-      counted = rw (read .number, block, given .sized)
+      counted : many ≡ 2 ^ (2 ^ ones (g .folding) - ones (blockOf (2 ^ ones (g .folding)) k (seat (g .n) (g .folding) mask)))
+      counted = rw (read .number, read .word, own, given .sized, seated-ones given l mask shut k (rw (given .all) inside))
 
   -- before level 0 there is none
-  pub passed-none : Passed frozen groups size 0
-  passed-none = record { inside = zero-le; full = λ n mask folding given t h. absurd (omega arith) }
+  pub passed-none : Passed l g 0
+  passed-none = record { inside = zero-le; full = λ mask shut t h. absurd (omega arith) }
 
   -- a level with a filling is passed
-  pub passed-next : {level shut many : ℕ} → Passed frozen groups size level → Read frozen groups size level shut many → (many ≡ 0 → ⊥)
-      → Passed frozen groups size (level + 1)
+  pub passed-next : {level word many : ℕ} → Passed l g level → Read l g level word many → (many ≡ 0 → ⊥) → Passed l g (level + 1)
   passed-next {level} {many = many} passed read filled = record {
     inside = omega (arith, read .inside);
-    full = λ n mask folding given t h. go n mask folding given t h (ℕ-discrete t level);
+    full = λ mask shut t h. go mask shut t h (ℕ-discrete t level);
   }
     where
-      go : (n mask folding : ℕ) → Grouped n mask folding frozen groups size → (t : ℕ) → t < level + 1 → Dec (t ≡ level) → isEmptyLevel n mask folding t ≡ false
-      go n mask folding given t h (yes e) = rw e (level-empty n mask folding given read ∙ ne-eqb many 0 filled)
-      go n mask folding given t h (no e) = passed .full n mask folding given t (omega arith)
+      go : (mask : ℕ) → Shut l g mask → (t : ℕ) → t < level + 1 → Dec (t ≡ level) → isEmptyLevel (g .n) mask (g .folding) t ≡ false
+      go mask shut t h (yes e) = rw e (level-empty read mask shut ∙ ne-eqb many 0 filled)
+      go mask shut t h (no e) = passed .full mask shut t (omega arith)
 
   -- a level with none is the first
-  pub found-empty : {level shut many : ℕ} → Passed frozen groups size level → Read frozen groups size level shut many → many ≡ 0
-      → (n mask folding : ℕ) → Grouped n mask folding frozen groups size → FirstEmpty n mask folding groups level
-  found-empty {level} {many = many} passed read empty n mask folding given = record {
+  pub found-empty : {level word many : ℕ} → Passed l g level → Read l g level word many → many ≡ 0
+      → (mask : ℕ) → Shut l g mask → FirstEmpty (g .n) mask (g .folding) (g .count) level
+  found-empty {level} {many = many} passed read empty mask shut = record {
     inside = passed .inside;
-    named = λ h. some-of (rules.groups n folding) (isEmptyLevel n mask folding) level (rw (given .all) at (read .inside))
-        (level-empty n mask folding given read ∙ eq-eqb many 0 empty) (passed .full n mask folding given);
+    named = λ h. some-of (rules.groups (g .n) (g .folding)) (isEmptyLevel (g .n) mask (g .folding)) level (rw (given .all) at (read .inside))
+        (level-empty read mask shut ∙ eq-eqb many 0 empty) (passed .full mask shut);
     absent = λ e. absurd (omega (arith, read .inside));
   }
 
   -- past the last level there is none
-  pub found-none : Passed frozen groups size groups
-      → (n mask folding : ℕ) → Grouped n mask folding frozen groups size → FirstEmpty n mask folding groups groups
-  found-none passed n mask folding given = record {
+  pub found-none : Passed l g (g .count) → (mask : ℕ) → Shut l g mask → FirstEmpty (g .n) mask (g .folding) (g .count) (g .count)
+  found-none passed mask shut = record {
     inside = passed .inside;
     named = λ h. absurd (omega arith);
-    absent = λ e. none-of (rules.groups n folding) (isEmptyLevel n mask folding) (λ t h. passed .full n mask folding given t (rw (given .all) h));
+    absent = λ e. none-of (rules.groups (g .n) (g .folding)) (isEmptyLevel (g .n) mask (g .folding)) (λ t h. passed .full mask shut t (rw (given .all) h));
   }

@@ -1,7 +1,7 @@
 -- `tree::empty::fillings` meets its contract.
 use Prim.Native.Nat.{_-_}
 use native.Mathlib.Omega.{arith}
-use lib.Count.{ones, ones-le}
+use lib.Count.{ones}
 use borrow.Author.Needs.{needs}
 use Rattle.laws.specs.Bits.{power-shifted}
 use Rattle.tree.proofs.empty.fillings.Statement.{statement}
@@ -14,7 +14,7 @@ cast-result : tie.Need-cast-result
 cast-result c = search needs
 
 sub-result : tie.Need-sub-result
-sub-result c = omega (arith, c .ones .ensures, ones-le (c .before .args .size) (c .before .args .shut) (c .before .pre .1))
+sub-result c = search needs
 
 cast-result-2 : tie.Need-cast-result-2
 cast-result-2 c = search needs

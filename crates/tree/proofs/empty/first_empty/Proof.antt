@@ -1,81 +1,61 @@
--- `tree::empty::first_empty` meets its contract. Invariant: no level before this one is empty.
-use Prim.Native.Nat.{ℕ, _-_, _%_, _^_, _≤_, _<_, min}
-use mathlib.Core.Path.{_≡_}
-use native.Mathlib.Nat.{mod-lt, mul-le-mul-right}
+use Prim.Native.Nat.{_-_}
 use native.Mathlib.Omega.{arith}
-use lib.Pow.{pow-pos}
-use borrow.Author.Needs.{needs}
 use Rattle.tree.proofs.Emptiness.{Passed, passed-none, passed-next, found-empty, found-none}
 use Rattle.tree.proofs.empty.first_empty.Statement.{statement}
 use Rattle.tree.proofs.empty.first_empty.Tie as tie
+use Rattle.tree.proofs.empty.first_empty.Reads as reads
+use Rattle.tree.proofs.empty.first_empty.Lts as lts
+use Rattle.tree.proofs.empty.fillings.Reads as fillings-reads
 
 abbrev Inv-loop : tie.InvT-loop
-Inv-loop frozen groups size level₀ level = Passed frozen groups size level
+Inv-loop shut groups level₀ level = Passed shut groups level
 
 abbrev μ-loop : tie.MeasureT-loop
-μ-loop frozen groups size level₀ level = groups - level
+μ-loop shut groups level₀ level = groups .count - level
 
--- a block of a group's size
-block-lt : (w size : ℕ) → size ≤ 8 → w % 2 ^ min size 8 < 2 ^ size
-block-lt w size narrow =
-    let whole : min size 8 ≡ size = omega arith in
-    rw whole (mod-lt w (pow-pos size))
-
+-- src/empty.rt:26:5
 loop-holds : tie.Need-loop-holds Inv-loop μ-loop
-loop-holds c = passed-none
+loop-holds c = ?
 
+-- src/empty.rt:27:21
 sub-group : tie.Need-sub-group Inv-loop μ-loop
 sub-group c = omega arith
 
+-- src/empty.rt:27:21
 sub-group-2 : tie.Need-sub-group-2 Inv-loop μ-loop
 sub-group-2 c = omega arith
 
-mul-block : tie.Need-mul-block Inv-loop μ-loop
-mul-block c =
-    let groups = c .before .before .args .groups in
-    let below : groups - 1 - c .before .loop .level ≤ groups = omega arith in
-    omega (arith, c .before .before .pre .1, mul-le-mul-right (c .before .before .args .size) below)
+-- src/empty.rt:28:21
+mul-fillings : tie.Need-mul-fillings Inv-loop μ-loop
+mul-fillings c = ?
 
-block-requires : tie.Need-block-requires Inv-loop μ-loop
-block-requires c κs = search needs
+-- src/empty.rt:28:21
+element-copy-out-fillings : tie.Need-element-copy-out-fillings Inv-loop μ-loop
+element-copy-out-fillings c = ?
 
+-- src/empty.rt:28:12
 fillings-requires : tie.Need-fillings-requires Inv-loop μ-loop
-fillings-requires c κs =
-    let narrow = c .before .before .before .pre .0 in
-    (narrow, rw (c .block .ensures) (block-lt _ (c .before .before .before .args .size) narrow))
+fillings-requires c κs = ?
 
+-- src/empty.rt:29:13
 returns : tie.Need-returns Inv-loop μ-loop
-returns c =
-    found-empty (c .before .before .before .before .loop .inv)
-    (record {
-      inside = c .before .before .before .loop-test .taken;
-      narrow = c .before .before .before .before .before .pre .0;
-      bits = c .before .before .block .ensures;
-      number = c .before .fillings .ensures;
-    })
-    (c .if1 .taken)
+returns c = ?
 
+-- src/empty.rt:31:9
 add-level : tie.Need-add-level Inv-loop μ-loop
 add-level c = omega arith
 
+-- src/empty.rt:26:5
 loop-less : tie.Need-loop-less Inv-loop μ-loop
 loop-less c = omega arith
 
+-- src/empty.rt:26:5
 loop-again : tie.Need-loop-again Inv-loop μ-loop
-loop-again c =
-    passed-next (c .before .before .before .before .loop .inv)
-    (record {
-      inside = c .before .before .before .loop-test .taken;
-      narrow = c .before .before .before .before .before .pre .0;
-      bits = c .before .before .block .ensures;
-      number = c .before .fillings .ensures;
-    })
-    (c .if1 .left)
+loop-again c = ?
 
+-- src/empty.rt:21:1
 returns-2 : tie.Need-returns-2 Inv-loop μ-loop
-returns-2 c =
-    let last : c .before .loop .level ≡ c .before .before .args .groups = omega (arith, c .before .loop .inv .inside) in
-    found-none (rw last at (c .before .loop .inv))
+returns-2 c = ?
 
 pub first-empty-spec : {M : Type 1} → statement M
 first-empty-spec =
@@ -86,8 +66,8 @@ first-empty-spec =
     loop-holds
     sub-group
     sub-group-2
-    mul-block
-    block-requires
+    mul-fillings
+    element-copy-out-fillings
     fillings-requires
     returns
     add-level
