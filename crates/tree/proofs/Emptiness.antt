@@ -29,11 +29,10 @@ empty-length : (l : List ℕ) → isEmpty l ≡ eqb (length l) 0
 empty-length [] = refl
 empty-length (x ∷ xs) = sym (ne-eqb (suc (length xs)) 0 (λ e. omega arith))
 
--- what the code reads of a level: the frozen indices of its group, and how many fillings they leave
-pub record Read (l : List ℕ) (g : Groups) (level shut many : ℕ) : Type 0 where
+-- what the code counts at a level: how many fillings the frozen indices of its group leave
+pub record Read (l : List ℕ) (g : Groups) (level many : ℕ) : Type 0 where
   pub inside : level < g .count
-  pub word : shut ≡ getD l (g .count - 1 - level) 0
-  pub number : many ≡ 2 ^ (g .size - ones shut)
+  pub number : many ≡ 2 ^ (g .size - ones (getD l (g .count - 1 - level) 0))
 
 -- no level before this one is empty
 pub record Passed (l : List ℕ) (g : Groups) (level : ℕ) : Type 0 where
@@ -61,8 +60,8 @@ module _ {g : Groups} (given : Grouped g) where
 
 module _ {l : List ℕ} {g : Groups} (given : Grouped g) where
   -- the level is empty exactly where the code's number is 0
-  level-empty : {level word many : ℕ} → Read l g level word many → (mask : ℕ) → Shut l g mask → isEmptyLevel (g .n) mask (g .folding) level ≡ eqb many 0
-  level-empty {level} {word} {many} read mask shut =
+  level-empty : {level many : ℕ} → Read l g level many → (mask : ℕ) → Shut l g mask → isEmptyLevel (g .n) mask (g .folding) level ≡ eqb many 0
+  level-empty {level} {many} read mask shut =
       empty-length (fillings mask (rules.group (g .n) (g .folding) k))
       ∙ ap (λ (m : ℕ). eqb m 0) (group-fillings (g .n) mask (g .folding) k (given .fits) inside ∙ sym counted)
     where
@@ -76,15 +75,15 @@ module _ {l : List ℕ} {g : Groups} (given : Grouped g) where
       own = omega (arith, given .all)
 
       counted : many ≡ 2 ^ (2 ^ ones (g .folding) - ones (blockOf (2 ^ ones (g .folding)) k (seat (g .n) (g .folding) mask)))
-      counted = rw (read .number, read .word, own, given .sized, seated-ones given l mask shut k (rw (given .all) inside))
+      counted = rw (read .number, own, given .sized, seated-ones given l mask shut k (rw (given .all) inside))
 
   -- before level 0 there is none
   pub passed-none : Passed l g 0
   passed-none = record { inside = zero-le; full = λ mask shut t h. absurd (omega arith) }
 
   -- a level with a filling is passed
-  pub passed-next : {level word many : ℕ} → Passed l g level → Read l g level word many → (many ≡ 0 → ⊥) → Passed l g (level + 1)
-  passed-next {level} {many = many} passed read filled = record {
+  pub passed-next : {level many : ℕ} → Passed l g level → Read l g level many → (many ≡ 0 → ⊥) → Passed l g (level + 1)
+  passed-next {level} {many} passed read filled = record {
     inside = omega (arith, read .inside);
     full = λ mask shut t h. go mask shut t h (ℕ-discrete t level);
   }
@@ -94,9 +93,9 @@ module _ {l : List ℕ} {g : Groups} (given : Grouped g) where
       go mask shut t h (no e) = passed .full mask shut t (omega arith)
 
   -- a level with none is the first
-  pub found-empty : {level word many : ℕ} → Passed l g level → Read l g level word many → many ≡ 0
+  pub found-empty : {level many : ℕ} → Passed l g level → Read l g level many → many ≡ 0
       → (mask : ℕ) → Shut l g mask → FirstEmpty (g .n) mask (g .folding) (g .count) level
-  found-empty {level} {many = many} passed read empty mask shut = record {
+  found-empty {level} {many} passed read empty mask shut = record {
     inside = passed .inside;
     named = λ h. some-of (rules.groups (g .n) (g .folding)) (isEmptyLevel (g .n) mask (g .folding)) level (rw (given .all) at (read .inside))
         (level-empty read mask shut ∙ eq-eqb many 0 empty) (passed .full mask shut);
