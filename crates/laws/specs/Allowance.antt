@@ -1,7 +1,7 @@
 -- The allowance, over any keeping and any tree: a walk that stops where the next visit would pass the
 -- allowance finishes exactly when the whole walk's total is at most the allowance, with the same state.
 use Prim.Native.Nat.{ℕ, zero, suc, _+_, _≤_, _<_}
-use mathlib.Core.Path.{_≡_, refl, sym, _∙_}
+use mathlib.Core.Path.{_≡_, refl, sym, ap₂, fun-ext, _∙_}
 use mathlib.Core.Bool.{Bool, true, false, cond}
 use mathlib.Core.Option.{Option, none, some}
 use mathlib.Core.List.{List, [], _∷_}
@@ -140,3 +140,14 @@ walk-within K a candidatesOf (suc k) p d s =
 pub walk-allowed : (K : Keeping) (a : ℕ) (candidatesOf : ℕ → ℕ → List Candidate) (k p d : ℕ) (s : State K) → s .visits ≤ a
     → walkIn K a candidatesOf k p d (some s) ≡ within a (walk K candidatesOf k p d s)
 walk-allowed K a candidatesOf k p d s h = rw (← within-some a s h) (walk-within K a candidatesOf k p d s)
+
+-- two walks agree where their candidates do at each group below
+pub walk-cong : (K : Keeping) (a : ℕ) (f g : ℕ → ℕ → List Candidate) (m : ℕ) → ((k d : ℕ) → k < m → f k d ≡ g k d)
+    → (p d : ℕ) (o : Option (State K)) → walkIn K a f m p d o ≡ walkIn K a g m p d o
+unfolding walkIn
+walk-cong K a f g zero h p d none = refl
+walk-cong K a f g zero h p d (some s) = refl
+walk-cong K a f g (suc k) h p d o =
+    ap₂ (λ (down : ℕ → ℕ → Option (State K) → Option (State K)) (cs : List Candidate). visitIn K a down p d cs o)
+    (fun-ext (λ q. fun-ext (λ e. fun-ext (λ u. walk-cong K a f g k (λ i x l. h i x (omega arith)) q e u))))
+    (h k d (le-refl (suc k)))

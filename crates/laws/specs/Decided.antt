@@ -2,10 +2,10 @@
 -- decided groups it is the information word; a pattern of the next group changes it by a word that goes by nothing decided.
 use Prim.Native.Nat.{ℕ, suc, _+_, _-_, _*_, _/_, _%_, _^_, _≤_, _<_}
 use mathlib.Core.Path.{_≡_, sym, ap, ap₂, _∙_}
-use native.Mathlib.Nat.{zero-mul, mul-one, suc-mul, div-one, zero-div, div-mul-le-self, mod-lt, lt-of-le-of-lt}
+use native.Mathlib.Nat.{zero-mul, mul-one, suc-mul, div-one, zero-div, div-mul-le-self, mod-lt, mod-eq-of-lt, lt-of-le-of-lt}
 use native.Mathlib.Decide.{ℕ-discrete}
 use native.Mathlib.Omega.{arith}
-use lib.Pow.{pow-pos}
+use lib.Pow.{pow-pos, shl-shr}
 use lib.Bits.{bitAnd, bitXor, and-comm, xor-lt}
 use lib.Count.{ones, ones-le}
 use lib.Dec.{eqb}
@@ -38,6 +38,12 @@ changeOf n F k u = codeword n (unseat n F (u * 2 ^ (k * 2 ^ ones F)))
 -- the indices of group k that are frozen
 abbrev pub shutOf : ℕ → ℕ → ℕ → ℕ → ℕ
 shutOf n F mask k = unseat n F (blockOf (2 ^ ones F) k (seat n F mask) * 2 ^ (k * 2 ^ ones F))
+
+-- in seat order they are the block's
+pub shut-block : (n F : ℕ) → F < 2 ^ n → (mask k : ℕ) → k < groups n F → blockOf (2 ^ ones F) k (seat n F (shutOf n F mask k)) ≡ blockOf (2 ^ ones F) k (seat n F mask)
+shut-block n F fits mask k hk =
+    let small = mod-lt (seat n F mask / 2 ^ (k * 2 ^ ones F)) (pow-pos (2 ^ ones F)) in
+    rw (seat-unseat n F fits _ (block-small n F fits k _ hk small), shl-shr (blockOf (2 ^ ones F) k (seat n F mask)) (k * 2 ^ ones F)) (mod-eq-of-lt small)
 
 -- with no group left the word decides itself
 pub decided-all : (n F : ℕ) → F < 2 ^ n → (w : ℕ) → w < 2 ^ (2 ^ n) → decided n F 0 w ≡ w

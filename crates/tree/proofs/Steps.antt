@@ -1,26 +1,27 @@
 -- One step of a node: what is known where a group's candidates are tried, and of the node one level down.
-use Prim.Native.Nat.{ℕ, suc, _+_, _*_, _/_, _%_, _^_, _≤_, _<_, min}
-use mathlib.Core.Path.{_≡_, sym, ap, ap₂, _∙_}
+use Prim.Native.Nat.{ℕ, suc, _+_, _*_, _/_, _%_, _^_, _≤_, _<_}
+use mathlib.Core.Path.{_≡_, refl, sym, ap, ap₂, _∙_}
 use mathlib.Core.List.{List}
-use native.Mathlib.Nat.{suc-mul, mul-one, mul-le-mul-left, mul-le-mul-right, mod-lt, mod-eq-of-lt, le-trans, lt-of-lt-of-le, mul-comm}
-use native.Mathlib.Decide.{decLt}
+use native.Mathlib.Nat.{suc-mul, mul-one, mul-comm, mul-le-mul-left, mul-le-mul-right, lt-of-lt-of-le}
 use native.Mathlib.Omega.{arith}
-use lib.Bits.{bitXor, xor-lt}
-use lib.Count.{ones, ones-le}
+use lib.Bits.{bitAnd, bitXor}
+use lib.Count.{ones}
+use lib.Dec.{eqb}
 use lib.ListN.{getD}
-use lib.Pow.{pow-mono, pow-pos, pow-lt}
+use lib.Pow.{pow-mono, pow-pos}
 use Rattle.rules.specs.Word.{codeword}
-use Rattle.rules.specs.Folding.{groups}
-use Rattle.laws.specs.Matrix.{codeword-longer}
+use Rattle.rules.specs.Folding as rules
+use Rattle.laws.specs.Matrix.{codeword-lt}
 use Rattle.laws.specs.GroupSizes.{groups-all}
-use Rattle.laws.specs.SeatWords.{unseat, seat-unseat}
-use Rattle.laws.specs.SeatedRow.{blockOf, entryCandidate, short-code}
-use Rattle.laws.specs.SeatedDown.{SeatedDown, groups-blocks, seated-down, block-small}
-use Rattle.laws.specs.Blocks.{block-code-lt}
+use Rattle.laws.specs.SeatWords.{seat}
+use Rattle.laws.specs.SeatedRow.{blockOf, fillingOf, isOpen, entryCandidate}
+use Rattle.laws.specs.Decided.{decided, changeOf, shut-block, Filled, filled}
+use Rattle.laws.specs.Copied.{change-copied}
 use Rattle.tree.specs.Tables.{Inside, entryAt}
 use Rattle.tree.specs.Costs.{GroupSize}
+use Rattle.tree.specs.Grouping.{Grouped}
 use Rattle.tree.specs.Nodes.{Given, rowCandidates, most}
-use Rattle.tree.specs.declared.walk.Tree.{Tree}
+use Rattle.tree.specs.declared.group.Groups.{Groups}
 use Rattle.tree.specs.declared.state.Walked.{Walked}
 use Rattle.tree.proofs.Rows.{rest}
 use Rattle.tree.proofs.Building.{by-size, size-small}
@@ -29,147 +30,115 @@ use Rattle.tree.proofs.Building.{by-size, size-small}
 in-table : {size : ℕ} (k : ℕ) → GroupSize size → suc k * size ≤ 64 → k * 2 ^ size < 2048
 in-table k = by-size (λ (size : ℕ). suc k * size ≤ 64 → k * 2 ^ size < 2048) (λ h. omega arith) (λ h. omega arith) (λ h. omega arith) (λ h. omega arith)
 
-module _ {table : List (List ℕ)} {index covered bytes : List ℕ} {tree : Tree} {k partial d x : ℕ} {s : Walked}
-    (given : Given table index covered bytes tree (suc k) partial d x s) where
-  sized : tree .size ≡ 2 ^ ones (tree .folding)
-  sized = given .rows .sized
+module _ {rows : List (List ℕ)} {change covered shut : List ℕ} {g : Groups} {allowance k partial w : ℕ} {s : Walked}
+    (given : Given rows change covered shut g allowance (suc k) partial w s) where
+  grouped : Grouped g
+  grouped = given .tables .grouped
 
-  shape : GroupSize (tree .size)
-  shape = (ones (tree .folding), given .rows .few, sized)
+  sized : g .size ≡ 2 ^ ones (g .folding)
+  sized = grouped .sized
 
-  slots-le : 2 ^ (tree .n) ≤ 64
-  slots-le = pow-mono (given .seated .few)
+  shape : GroupSize (g .size)
+  shape = (ones (g .folding), grouped .few, sized)
 
-  pub narrow : tree .size ≤ 8
+  pub narrow : g .size ≤ 8
   narrow = size-small shape
 
-  some-size : 0 < tree .size
-  some-size = rw sized (pow-pos (ones (tree .folding)))
+  -- the group is one of the folding's
+  group-is : k < rules.groups (g .n) (g .folding)
+  group-is = rw (← grouped .all) (given .begun .within)
 
-  pub first-seat : k * tree .size + tree .size ≤ 64
-  first-seat = omega (arith, slots-le, given .rows .inside, suc-mul k (tree .size))
+  -- and its indices are among 64
+  seats-fit : suc k * g .size ≤ 64
+  seats-fit =
+      omega (
+        arith,
+        mul-le-mul-right {m = suc k} {n = rules.groups (g .n) (g .folding)} (g .size) group-is,
+        ap (λ (z : ℕ). rules.groups (g .n) (g .folding) * z) sized ∙ groups-all (g .n) (g .folding) (grouped .fits),
+        pow-mono {j = 6} (grouped .small),
+      )
 
   pub few-groups : k < 64
-  few-groups = omega (arith, slots-le, given .rows .inside, mul-le-mul-left (suc k) some-size, mul-one (suc k))
+  few-groups =
+      let one : 0 < g .size = rw sized (pow-pos (ones (g .folding))) in
+      omega (arith, seats-fit, mul-le-mul-left (suc k) one, mul-one (suc k))
 
   -- every entry of the group's row is in the table
-  pub inside : (j : ℕ) → j < 2 ^ (tree .size) → Inside (tree .size) k j
-  inside j h = record { narrow = narrow; group = in-table k shape (le-trans (given .rows .inside) slots-le); entry = h }
+  pub inside : (j : ℕ) → j < 2 ^ (g .size) → Inside (g .size) k j
+  inside j h = record { narrow = narrow; group = in-table k shape seats-fit; entry = h }
 
-  -- the group is one of the folding's
-  group-is : k < groups (tree .n) (tree .folding)
-  group-is = go (decLt k (groups (tree .n) (tree .folding)))
-    where
-      go : Dec (k < groups (tree .n) (tree .folding)) → k < groups (tree .n) (tree .folding)
-      go (yes h) = h
-      go (no h) =
-          absurd (omega (
-            arith,
-            some-size,
-            given .rows .inside,
-            suc-mul k (tree .size),
-            mul-le-mul-right {m = groups (tree .n) (tree .folding)} {n = k} (tree .size) (omega arith),
-            ap (λ (z : ℕ). groups (tree .n) (tree .folding) * z) sized ∙ groups-all (tree .n) (tree .folding) (given .seated .fits),
-          ))
+  -- the pattern that the groups decided force on this one, and its frozen bits in seat order
+  abbrev pub forced : ℕ
+  forced = blockOf (g .size) k (codeword (g .n) (seat (g .n) (g .folding) (decided (g .n) (g .folding) (suc k) w)))
 
-  -- a block as the code reads it
-  pub block-is : (w r : ℕ) → r ≡ w / 2 ^ (k * tree .size) % 2 ^ min (tree .size) 8 → r ≡ blockOf (tree .size) k w
-  block-is w r e =
-      let own : min (tree .size) 8 ≡ tree .size = omega (arith, narrow) in
-      e ∙ ap (λ (m : ℕ). w / 2 ^ (k * tree .size) % 2 ^ m) own
+  abbrev pub closed : ℕ
+  closed = blockOf (g .size) k (seat (g .n) (g .folding) (getD shut k 0))
 
   -- the node's candidates are those that the row holds
-  pub here : rowCandidates table tree k (unseat (tree .n) (tree .folding) d)
-      ≡ rest table (tree .n) (tree .folding) (tree .size) k (blockOf (tree .size) k x) (blockOf (tree .size) k (tree .frozen)) 0
+  pub here : rowCandidates rows shut g k (decided (g .n) (g .folding) (suc k) w) ≡ rest rows (g .n) (g .folding) (g .size) k forced closed 0
   unfolding rowCandidates
-  here =
-      rw (seat-unseat (tree .n) (tree .folding) (given .seated .fits) d (given .begun .word), ← given .begun .code)
+  here = refl
 
-  module _ (j : ℕ) (h : j < 2 ^ (tree .size)) where
-    -- the pattern's own bits
-    abbrev pub own : ℕ
-    own = bitXor (entryAt table (tree .size) k j % 256) (blockOf (tree .size) k x)
+  module _ (j : ℕ) (h : j < 2 ^ (g .size)) where
+    abbrev e : ℕ
+    e = entryAt rows (g .size) k j
 
-    own-lt : own < 2 ^ (tree .size)
-    own-lt = xor-lt (tree .size) _ _ (given .rows .narrow k j (omega arith) h) (mod-lt _ (pow-pos (tree .size)))
+    pattern-lt : e % 256 < 2 ^ (g .size)
+    pattern-lt = given .tables .narrow k j (given .begun .within) h
 
-    short : (codeword 3 own < 2 ^ (tree .size)) × (codeword (ones (tree .folding)) (codeword 3 own) ≡ own)
-    short = rw (← sized) at (short-code (ones (tree .folding)) own (given .rows .few) (rw (← sized) own-lt))
+    -- what the code adds to the word is what the pattern changes in it
+    change-is : getD covered k 0 * getD change (e % 256) 0 ≡ changeOf (g .n) (g .folding) k (e % 256)
+    change-is =
+        ap₂ (λ (a b : ℕ). a * b) (given .tables .copied k (given .begun .within)) (given .tables .changes (e % 256) pattern-lt)
+        ∙ mul-comm _ _ ∙ change-copied (g .n) (g .folding) (grouped .fits) (grouped .few) k (e % 256) group-is (rw (← sized) pattern-lt)
 
-    -- what is added to the word in seat order
-    abbrev pub added : ℕ
-    added = codeword 3 own * 2 ^ (k * tree .size)
+    pub change-fits : getD covered k 0 * getD change (e % 256) 0 < 2 ^ 64
+    change-fits = rw change-is (lt-of-lt-of-le (codeword-lt (g .n) _) (pow-mono (pow-mono {j = 6} (grouped .small))))
 
-    down : SeatedDown (tree .n) (tree .folding) k d (codeword 3 own)
+    -- the next word
+    abbrev pub next : ℕ
+    next = bitXor w (getD covered k 0 * getD change (e % 256) 0)
+
+    down : Filled (g .n) (given .tables .frozen .0) (g .folding) k w e next
     down =
-        seated-down (tree .n) (tree .folding) (given .seated .fits) k d (codeword 3 own) group-is (given .begun .word)
-        (rw (← sized) (given .begun .empty)) (rw (← sized) (short .0))
+        rw change-is
+        (filled (g .n) (given .tables .frozen .0) (g .folding) (grouped .fits) (grouped .few) k w e group-is (given .begun .small)
+        (given .begun .blank) (rw (← sized) pattern-lt))
 
-    added-lt : added < 2 ^ 64
-    added-lt =
-        lt-of-lt-of-le
-        (rw (← sized) at (block-small (tree .n) (tree .folding) (given .seated .fits) k (codeword 3 own) group-is (rw (← sized) (short .0))))
-        (pow-mono slots-le)
-
-    -- the next word, as the code makes it
-    pub next-word : (next : ℕ) → next ≡ bitXor d (added % 2 ^ 64) → next ≡ d + added
-    next-word next e = e ∙ ap (bitXor d) (mod-eq-of-lt added-lt) ∙ rw (← sized) at (down .by-xor)
-
-    -- the copies of the own bits, as the code makes them
-    copied : getD covered k 0 ≡ codeword (tree .n) (2 ^ (k * tree .size))
-    copied =
-        given .rows .copied k (omega arith)
-        ∙ codeword-longer (tree .n) 6 _ (given .seated .few) (pow-lt (omega (arith, some-size, given .rows .inside, suc-mul k (tree .size))))
-
-    product : own * getD covered k 0 < 2 ^ (2 ^ (tree .n))
-    product =
-        rw (copied)
-        (rw (short .1, ← sized) at
-        (block-code-lt (tree .n) (ones (tree .folding)) k (ones-le (tree .n) (tree .folding) (given .seated .fits))
-        (rw (groups-blocks (tree .n) (tree .folding) (given .seated .fits)) at group-is) (codeword 3 own) (rw (← sized) (short .0))))
-
-    pub copies-fit : getD covered k 0 * own < 2 ^ 64
-    copies-fit = lt-of-lt-of-le (rw (mul-comm (getD covered k 0) own) product) (pow-mono slots-le)
+    -- it has no frozen bit of the group exactly where the entry's filling has none
+    pub open-is : eqb (bitAnd next (getD shut k 0)) 0 ≡ isOpen closed forced e
+    open-is =
+        let own = rw (← sized) at (given .tables .frozen .1 k (given .begun .within)) in
+        let mask = given .tables .frozen .0 in
+        let block : closed ≡ blockOf (g .size) k (seat (g .n) (g .folding) mask) =
+        ap (λ (x : ℕ). blockOf (g .size) k (seat (g .n) (g .folding) x)) own
+        ∙ rw (← sized) at (shut-block (g .n) (g .folding) (grouped .fits) mask k group-is)
+        in
+        ap (λ (x : ℕ). eqb (bitAnd next x) 0) own ∙ rw (← sized) at (down .free) ∙ ap (λ (b : ℕ). eqb (bitAnd (fillingOf forced e) b) 0) (sym block)
 
     -- the branch distance leaves room for the groups below
-    pub total-fits : partial + entryAt table (tree .size) k j / 256 < 2 ^ 32
-    total-fits = omega (arith, given .rows .near k j (omega arith) h, given .begun .room, suc-mul k (tree .size * most))
+    pub total-fits : partial + e / 256 < 2 ^ 32
+    total-fits = omega (arith, given .tables .near k j (given .begun .within) h, given .begun .room, suc-mul k (g .size * most))
 
     -- what the node one level down is given
-    pub given-down : (next code total : ℕ) (after : Walked) → next ≡ bitXor d (added % 2 ^ 64) → code ≡ bitXor x (getD covered k 0 * own)
-        → total ≡ partial + entryAt table (tree .size) k j / 256 → after .visits ≤ tree .allowance
-        → Given table index covered bytes tree k total next code after
-    given-down next code total after isNext isCode isTotal running =
+    pub given-down : (total : ℕ) (after : Walked) → total ≡ partial + e / 256 → after .visits ≤ allowance
+        → Given rows change covered shut g allowance k total next after
+    given-down total after isTotal running =
         record {
-          seated = given .seated;
-          rows =
-              record {
-                sized = sized;
-                few = given .rows .few;
-                inside = omega (arith, given .rows .inside, suc-mul k (tree .size));
-                near = λ i e l m. given .rows .near i e (omega arith) m;
-                narrow = λ i e l m. given .rows .narrow i e (omega arith) m;
-                copied = λ i l. given .rows .copied i (omega arith);
-                bounded = given .rows .bounded;
-              };
+          tables = given .tables;
+          bounded = given .bounded;
           begun =
               record {
-                word = rw (next-word next isNext) (rw (← sized) at (down .small));
-                empty = rw (next-word next isNext) (rw (← sized) at (down .clear));
-                code =
-                    isCode
-                    ∙ ap₂ bitXor (given .begun .code) (mul-comm (getD covered k 0) own ∙ ap₂ (λ (a b : ℕ). a * b) (sym (short .1)) copied)
-                    ∙ sym (rw (← sized) at (down .code)) ∙ ap (codeword (tree .n)) (sym (next-word next isNext));
-                room = omega (arith, given .rows .near k j (omega arith) h, given .begun .room, suc-mul k (tree .size * most));
+                within = omega (arith, given .begun .within);
+                small = down .small;
+                blank = down .left;
+                room = omega (arith, given .tables .near k j (given .begun .within) h, given .begun .room, suc-mul k (g .size * most));
               };
-          mapped = given .mapped;
           running = running;
         }
 
-    -- its word in index order is this node's with the candidate's filling
-    pub filled : (next : ℕ) → next ≡ bitXor d (added % 2 ^ 64)
-        → unseat (tree .n) (tree .folding) next
-        ≡ unseat (tree .n) (tree .folding) d
-        + entryCandidate (tree .n) (tree .folding) (tree .size) k (blockOf (tree .size) k x) (entryAt table (tree .size) k j) .filling
+    -- it decides this node's word with the candidate's filling
+    pub fills : decided (g .n) (g .folding) k next
+        ≡ decided (g .n) (g .folding) (suc k) w + entryCandidate (g .n) (g .folding) (g .size) k forced e .filling
     unfolding entryCandidate
-    filled next isNext = rw (next-word next isNext) (rw (← sized) at (down .apart))
+    fills = rw (← sized) at (down .adds)

@@ -1,5 +1,5 @@
 -- The loop of a node over its row: the candidates tried so far have led from the node's first state to the present one.
-use Prim.Native.Nat.{ℕ, suc, min, _+_, _-_, _*_, _/_, _%_, _^_, _≤_, _<_}
+use Prim.Native.Nat.{ℕ, suc, _+_, _-_, _*_, _/_, _%_, _^_, _≤_, _<_}
 use mathlib.Core.Path.{_≡_, refl, sym, ap, ap₂, _∙_}
 use mathlib.Core.Bool.{Bool, true, false}
 use mathlib.Core.Option.{Option, none, some}
@@ -10,21 +10,19 @@ use lib.Bits.{bitAnd, bitXor}
 use lib.Dec.{eqb}
 use lib.ListN.{getD}
 use borrow.Author.Tests.{lt-ltb, le-ltb}
-use Rattle.rules.specs.Word.{codeword}
 use Rattle.rules.specs.Level.{keep}
 use Rattle.rules.specs.Walk.{Candidate, State, keepBest, count, isFarther}
-use Rattle.laws.specs.Each.{each-at}
 use Rattle.laws.specs.Allowance.{visitIn, walkIn, visit-end, visit-stopped, visit-out, visit-cut, visit-down, walk-last, walk-node}
-use Rattle.laws.specs.SeatWords.{unseat}
-use Rattle.laws.specs.SeatedRow.{blockOf, isOpen, entryCandidate}
+use Rattle.laws.specs.SeatedRow.{isOpen, entryCandidate}
+use Rattle.laws.specs.Decided.{decided, decided-all}
 use Rattle.laws.specs.Bits.{power-shifted}
 use Rattle.tree.specs.Tables.{entryAt}
 use Rattle.tree.specs.States.{keptOf, runningOf, stateOf}
 use Rattle.tree.specs.Nodes.{Given, rowCandidates}
-use Rattle.tree.specs.declared.walk.Tree.{Tree}
+use Rattle.tree.specs.declared.group.Groups.{Groups}
 use Rattle.tree.specs.declared.state.Walked.{Walked}
 use Rattle.tree.proofs.Rows.{rest, rest-open, rest-shut, rest-end}
-use Rattle.tree.proofs.Steps.{narrow, block-is, here, own, added, filled}
+use Rattle.tree.proofs.Steps.{narrow, forced, closed, here, next, open-is, fills}
 
 -- a state within the allowance, and one beyond it
 pub running-state : (allowance : ℕ) (s : Walked) → s .visits ≤ allowance → stateOf allowance s ≡ some (runningOf s)
@@ -40,210 +38,182 @@ once s = record { word = s .word; distance = s .distance; visits = s .visits + 1
 once-counted : (allowance : ℕ) (s : Walked) → s .visits + 1 ≤ allowance → stateOf allowance (once s) ≡ some (count (runningOf s))
 once-counted allowance s h = running-state allowance (once s) h ∙ rw (add-one (s .visits))
 
--- the word so far, in index order
-abbrev pub wordAt : Tree → ℕ → ℕ
-wordAt tree d = unseat (tree .n) (tree .folding) d
+-- the word decided so far, with so many levels left
+abbrev pub wordAt : Groups → ℕ → ℕ → ℕ
+wordAt g left w = decided (g .n) (g .folding) left w
 
--- the rules' walk of the levels below group k + 1
-abbrev pub under : List (List ℕ) → Tree → ℕ → ℕ → ℕ → Option (State keepBest) → Option (State keepBest)
-under rows tree k = walkIn keepBest (tree .allowance) (rowCandidates rows tree) k
-
--- what the rules do with candidates of group k, at a state
-abbrev pub trial : List (List ℕ) → Tree → ℕ → ℕ → ℕ → List Candidate → Option (State keepBest) → Option (State keepBest)
-trial rows tree k partial d = visitIn keepBest (tree .allowance) (under rows tree k) partial (wordAt tree d)
-
--- the candidates of the row of group k from entry j on
-abbrev pub remaining : List (List ℕ) → Tree → ℕ → ℕ → ℕ → List Candidate
-remaining rows tree k x =
-    rest rows (tree .n) (tree .folding) (tree .size) k (blockOf (tree .size) k x) (blockOf (tree .size) k (tree .frozen))
-
--- the candidate of entry j
-abbrev pub candidateAt : List (List ℕ) → Tree → ℕ → ℕ → ℕ → Candidate
-candidateAt rows tree k x j =
-    entryCandidate (tree .n) (tree .folding) (tree .size) k (blockOf (tree .size) k x) (entryAt rows (tree .size) k j)
+-- the rules' walk of the levels that are left
+abbrev pub under : List (List ℕ) → List ℕ → Groups → ℕ → ℕ → ℕ → ℕ → Option (State keepBest) → Option (State keepBest)
+under rows shut g allowance = walkIn keepBest allowance (rowCandidates rows shut g)
 
 -- what the rules do with the whole node
-abbrev pub wholly : List (List ℕ) → Tree → ℕ → ℕ → ℕ → Option (State keepBest) → Option (State keepBest)
-wholly rows tree partial d left o =
-    under rows tree left partial (wordAt tree d) o
+abbrev pub wholly : List (List ℕ) → List ℕ → Groups → ℕ → ℕ → ℕ → ℕ → Option (State keepBest) → Option (State keepBest)
+wholly rows shut g allowance left partial w = under rows shut g allowance left partial (wordAt g left w)
+
+-- what they do with candidates of group k, at a state
+abbrev pub trial : List (List ℕ) → List ℕ → Groups → ℕ → ℕ → ℕ → ℕ → List Candidate → Option (State keepBest) → Option (State keepBest)
+trial rows shut g allowance k partial w = visitIn keepBest allowance (under rows shut g allowance k) partial (wordAt g (suc k) w)
 
 -- the loop's invariant
-pub record Trying (rows : List (List ℕ)) (index covered bytes : List ℕ) (tree : Tree) (left partial d x k size at entries forced shut : ℕ)
+pub record Trying (rows : List (List ℕ)) (change covered shut : List ℕ) (g : Groups) (allowance left partial w k size entries : ℕ)
     (first s : Walked) (j : ℕ) : Type 0 where
-  pub given : Given rows index covered bytes tree (suc k) partial d x first
+  pub given : Given rows change covered shut g allowance (suc k) partial w first
   pub levels : left ≡ suc k
-  pub sized : size ≡ tree .size
-  pub placed : at ≡ k * tree .size
-  pub counted : entries ≡ 2 ^ (tree .size)
-  pub forced-is : forced ≡ blockOf (tree .size) k x
-  pub shut-is : shut ≡ blockOf (tree .size) k (tree .frozen)
-  pub tried : j ≤ 2 ^ (tree .size)
-  pub running : s .visits ≤ tree .allowance
-  pub same : trial rows tree k partial d (remaining rows tree k x j) (stateOf (tree .allowance) s) ≡ wholly rows tree partial d left (stateOf (tree .allowance) first)
+  pub sized : size ≡ g .size
+  pub counted : entries ≡ 2 ^ (g .size)
+  pub tried : j ≤ 2 ^ (g .size)
+  pub running : s .visits ≤ allowance
+  pub same : trial rows shut g allowance k partial w (rest rows (g .n) (g .folding) (g .size) k (forced given) (closed given) j) (stateOf allowance s)
+      ≡ wholly rows shut g allowance left partial w (stateOf allowance first)
 
-module _ {rows : List (List ℕ)} {index covered bytes : List ℕ} {tree : Tree} {left partial d x k size at entries forced shut : ℕ}
-    {first s : Walked} {j : ℕ} (t : Trying rows index covered bytes tree left partial d x k size at entries forced shut first s j) where
+module _ {rows : List (List ℕ)} {change covered shut : List ℕ} {g : Groups} {allowance left partial w k size entries : ℕ} {first s : Walked} {j : ℕ}
+    (t : Trying rows change covered shut g allowance left partial w k size entries first s j) where
+  -- the node's whole result
+  abbrev whole : Option (State keepBest)
+  whole = wholly rows shut g allowance left partial w (stateOf allowance first)
+
+  -- the candidates of the row from an entry on
+  abbrev remaining : ℕ → List Candidate
+  remaining = rest rows (g .n) (g .folding) (g .size) k (forced (t .given)) (closed (t .given))
+
   -- the row is at its end
-  pub trying-end : entries ≤ j → stateOf (tree .allowance) s ≡ wholly rows tree partial d left (stateOf (tree .allowance) first)
+  pub trying-end : entries ≤ j → stateOf allowance s ≡ whole
   trying-end h =
-      sym (visit-end keepBest (tree .allowance) (under rows tree k) partial (wordAt tree d) (stateOf (tree .allowance) s))
-      ∙ ap (λ (cs : List Candidate). trial rows tree k partial d cs (stateOf (tree .allowance) s)) (sym (rest-end rows _ _ _ k _ _ j (rw (← t .counted) h)))
+      sym (visit-end keepBest allowance (under rows shut g allowance k) partial (wordAt g (suc k) w) (stateOf allowance s))
+      ∙ ap (λ (cs : List Candidate). trial rows shut g allowance k partial w cs (stateOf allowance s)) (sym (rest-end rows _ _ _ k _ _ j (rw (← t .counted) h)))
       ∙ t .same
 
   module _ (h : j < entries) where
-    pub below : j < 2 ^ (tree .size)
+    pub below : j < 2 ^ (g .size)
     below = rw (← t .counted) h
 
-    -- what the code read of the entry
-    pub record Read (e o f : ℕ) : Type 0 where
-      pub entry-is : e ≡ entryAt rows (tree .size) k j
-      pub own-is : o ≡ bitXor (e % 256) forced
-      pub filling-is : f ≡ codeword 3 o
+    -- the candidate of entry j
+    abbrev here-is : Candidate
+    here-is = entryCandidate (g .n) (g .folding) (g .size) k (forced (t .given)) (entryAt rows (g .size) k j)
 
-    pub reading : {e o : ℕ} → e ≡ entryAt rows (tree .size) k j → o ≡ bitXor (e % 256) forced → o < 256 → Read e o (getD bytes o 0)
-    reading {o = o} p q r =
-        record { entry-is = p; own-is = q; filling-is = ap (λ (l : List ℕ). getD l o 0) (t .given .mapped) ∙ each-at (codeword 3) 0 256 o r }
+    module _ (e : ℕ) (entry-is : e ≡ entryAt rows (g .size) k j) where
+      pub total-is : partial + e / 256 ≡ partial + entryAt rows (g .size) k j / 256
+      total-is = ap (λ (a : ℕ). partial + a / 256) entry-is
 
-    module _ {e o f : ℕ} (read : Read e o f) where
-      pub own-right : o ≡ own (t .given) j below
-      own-right = read .own-is ∙ ap₂ (λ (a b : ℕ). bitXor (a % 256) b) (read .entry-is) (t .forced-is)
+      pub product-is : getD covered k 0 * getD change (e % 256) 0 ≡ getD covered k 0 * getD change (entryAt rows (g .size) k j % 256) 0
+      product-is = ap (λ (a : ℕ). getD covered k 0 * getD change (a % 256) 0) entry-is
 
-      pub filling-right : f ≡ codeword 3 (own (t .given) j below)
-      filling-right = read .filling-is ∙ ap (codeword 3) own-right
+      module _ (after : ℕ) (changed : after ≡ bitXor w (getD covered k 0 * getD change (e % 256) 0)) where
+        -- the next word as the code made it
+        pub next-is : after ≡ next (t .given) j below
+        next-is = changed ∙ ap (bitXor w) product-is
 
-      -- the next word, its codeword and its partial distance, as the code makes them
-      pub next-right : (next lifted : ℕ) → next ≡ bitXor d lifted → lifted ≡ f * 2 ^ at % 2 ^ 64 → next ≡ bitXor d (added (t .given) j below % 2 ^ 64)
-      next-right next lifted p q =
-          p ∙ ap (bitXor d) (q ∙ ap₂ (λ (a b : ℕ). a * 2 ^ b % 2 ^ 64) filling-right (t .placed))
+        module _ (r : Bool) (test : r ≡ eqb (bitAnd after (getD shut k 0)) 0) where
+          open-right : isOpen (closed (t .given)) (forced (t .given)) (entryAt rows (g .size) k j) ≡ r
+          open-right = sym (test ∙ ap (λ (a : ℕ). eqb (bitAnd a (getD shut k 0)) 0) next-is ∙ open-is (t .given) j below)
 
-      pub code-right : (code : ℕ) → code ≡ bitXor x (getD covered k 0 * o) → code ≡ bitXor x (getD covered k 0 * own (t .given) j below)
-      code-right code p = p ∙ ap (λ (a : ℕ). bitXor x (getD covered k 0 * a)) own-right
+          -- a word with a frozen bit: on to the next entry
+          pub trying-shut : r ≡ false → Trying rows change covered shut g allowance left partial w k size entries first s (j + 1)
+          trying-shut q =
+              record {
+                given = t .given;
+                levels = t .levels;
+                sized = t .sized;
+                counted = t .counted;
+                tried = omega (arith, below);
+                running = t .running;
+                same =
+                    ap (λ (cs : List Candidate). trial rows shut g allowance k partial w cs (stateOf allowance s)) (sym (rest-shut rows _ _ _ k _ _ j below (open-right ∙ q)))
+                    ∙ t .same;
+              }
 
-      pub total-is : partial + e / 256 ≡ partial + entryAt rows (tree .size) k j / 256
-      total-is = ap (λ (a : ℕ). partial + a / 256) (read .entry-is)
+          module _ (q : r ≡ true) where
+            -- the candidate and those after it, from the present state
+            opened : trial rows shut g allowance k partial w (here-is ∷ remaining (j + 1)) (some (runningOf s)) ≡ whole
+            opened =
+                ap₂ (λ (cs : List Candidate) (o : Option (State keepBest)). trial rows shut g allowance k partial w cs o)
+                (sym (rest-open rows _ _ _ k _ _ j below (open-right ∙ q))) (sym (running-state allowance s (t .running)))
+                ∙ t .same
 
-      test-right : (r : Bool) → r ≡ eqb (bitAnd f shut) 0
-          → isOpen (blockOf (tree .size) k (tree .frozen)) (blockOf (tree .size) k x) (entryAt rows (tree .size) k j) ≡ r
-      test-right r q = sym (q ∙ ap₂ (λ (a b : ℕ). eqb (bitAnd a b) 0) filling-right (t .shut-is))
+            -- the next visit would pass the allowance
+            pub trying-out : allowance < s .visits + 1 → stateOf allowance (once s) ≡ whole
+            trying-out out =
+                ended-state allowance (once s) out
+                ∙ sym (visit-out keepBest allowance (under rows shut g allowance k) partial (wordAt g (suc k) w) _ _ (runningOf s) (omega (arith, out))) ∙ opened
 
-      module _ (r : Bool) (test : r ≡ eqb (bitAnd f shut) 0) where
-        -- a filling with a frozen bit: on to the next entry
-        pub trying-shut : r ≡ false → Trying rows index covered bytes tree left partial d x k size at entries forced shut first s (j + 1)
-        trying-shut q =
-            record {
-              given = t .given;
-              levels = t .levels;
-              sized = t .sized;
-              placed = t .placed;
-              counted = t .counted;
-              forced-is = t .forced-is;
-              shut-is = t .shut-is;
-              tried = omega (arith, below);
-              running = t .running;
-              same =
-                  ap (λ (cs : List Candidate). trial rows tree k partial d cs (stateOf (tree .allowance) s)) (sym (rest-shut rows _ _ _ k _ _ j below (test-right r test ∙ q)))
-                  ∙ t .same;
-            }
+            module _ (within : s .visits + 1 ≤ allowance) (total : ℕ) (summed : total ≡ partial + e / 256) where
+              allowed : s .visits < allowance
+              allowed = omega (arith, within)
 
-        module _ (q : r ≡ true) where
-          -- the candidate and those after it, from the present state
-          opened : trial rows tree k partial d (candidateAt rows tree k x j ∷ remaining rows tree k x (j + 1)) (some (runningOf s))
-              ≡ wholly rows tree partial d left (stateOf (tree .allowance) first)
-          opened =
-              ap₂ (λ (cs : List Candidate) (o : Option (State keepBest)). trial rows tree k partial d cs o)
-              (sym (rest-open rows _ _ _ k _ _ j below (test-right r test ∙ q))) (sym (running-state (tree .allowance) s (t .running)))
-              ∙ t .same
+              total-right : total ≡ partial + here-is .branch
+              unfolding entryCandidate
+              total-right = summed ∙ total-is
 
-          -- the next visit would pass the allowance
-          pub trying-out : tree .allowance < s .visits + 1 → stateOf (tree .allowance) (once s) ≡ wholly rows tree partial d left (stateOf (tree .allowance) first)
-          trying-out out =
-              ended-state (tree .allowance) (once s) out
-              ∙ sym (visit-out keepBest (tree .allowance) (under rows tree k) partial (wordAt tree d) _ _ (runningOf s) (omega (arith, out))) ∙ opened
-
-          module _ (within : s .visits + 1 ≤ tree .allowance) (total : ℕ) (summed : total ≡ partial + e / 256) where
-            allowed : s .visits < tree .allowance
-            allowed = omega (arith, within)
-
-            total-right : total ≡ partial + candidateAt rows tree k x j .branch
-            unfolding entryCandidate
-            total-right = summed ∙ ap (λ (a : ℕ). partial + a / 256) (read .entry-is)
-
-            -- the visit is counted, and the node is left
-            pub trying-cut : isFarther (keptOf s) total ≡ true → stateOf (tree .allowance) (once s) ≡ wholly rows tree partial d left (stateOf (tree .allowance) first)
-            trying-cut far =
-                once-counted (tree .allowance) s within
-                ∙ sym (visit-cut keepBest (tree .allowance) (under rows tree k) partial (wordAt tree d) _ _ (runningOf s) allowed (rw (← total-right) far))
-                ∙ opened
-
-            -- the walk went down one level and came back
-            module _ (near : isFarther (keptOf s) total ≡ false) (next : ℕ) (isNext : next ≡ bitXor d (added (t .given) j below % 2 ^ 64)) (back : Walked)
-                (came : stateOf (tree .allowance) back ≡ under rows tree k total (wordAt tree next) (stateOf (tree .allowance) (once s))) where
-              onwards : trial rows tree k partial d (remaining rows tree k x (j + 1)) (stateOf (tree .allowance) back) ≡ wholly rows tree partial d left (stateOf (tree .allowance) first)
-              onwards =
-                  ap (trial rows tree k partial d (remaining rows tree k x (j + 1)))
-                  (came ∙ ap₂ (λ (p : ℕ) (o : Option (State keepBest)). under rows tree k p (wordAt tree next) o) total-right (once-counted (tree .allowance) s within)
-                  ∙ ap (λ (w : ℕ). under rows tree k (partial + candidateAt rows tree k x j .branch) w (some (count (runningOf s)))) (filled (t .given) j below next isNext))
-                  ∙ sym (visit-down keepBest (tree .allowance) (under rows tree k) partial (wordAt tree d) _ _ (runningOf s) allowed (rw (← total-right) near))
+              -- the visit is counted, and the node is left
+              pub trying-cut : isFarther (keptOf s) total ≡ true → stateOf allowance (once s) ≡ whole
+              trying-cut far =
+                  once-counted allowance s within
+                  ∙ sym (visit-cut keepBest allowance (under rows shut g allowance k) partial (wordAt g (suc k) w) _ _ (runningOf s) allowed (rw (← total-right) far))
                   ∙ opened
 
-              -- the allowance was used up below
-              pub trying-stopped : tree .allowance < back .visits → stateOf (tree .allowance) back ≡ wholly rows tree partial d left (stateOf (tree .allowance) first)
-              trying-stopped off =
-                  ended-state (tree .allowance) back off ∙ sym (visit-stopped keepBest (tree .allowance) (under rows tree k) partial (wordAt tree d) (remaining rows tree k x (j + 1)))
-                  ∙ ap (trial rows tree k partial d (remaining rows tree k x (j + 1))) (sym (ended-state (tree .allowance) back off)) ∙ onwards
+              -- the walk went down one level and came back
+              module _ (near : isFarther (keptOf s) total ≡ false) (back : Walked)
+                  (came : stateOf allowance back ≡ wholly rows shut g allowance k total after (stateOf allowance (once s))) where
+                onwards : trial rows shut g allowance k partial w (remaining (j + 1)) (stateOf allowance back) ≡ whole
+                onwards =
+                    ap (trial rows shut g allowance k partial w (remaining (j + 1)))
+                    (came ∙ ap₂ (λ (p : ℕ) (o : Option (State keepBest)). under rows shut g allowance k p (wordAt g k after) o) total-right (once-counted allowance s within)
+                    ∙ ap (λ (d : ℕ). under rows shut g allowance k (partial + here-is .branch) d (some (count (runningOf s)))) (ap (wordAt g k) next-is ∙ fills (t .given) j below))
+                    ∙ sym (visit-down keepBest allowance (under rows shut g allowance k) partial (wordAt g (suc k) w) _ _ (runningOf s) allowed (rw (← total-right) near))
+                    ∙ opened
 
-              -- on to the next entry
-              pub trying-back : back .visits ≤ tree .allowance → Trying rows index covered bytes tree left partial d x k size at entries forced shut first back (j + 1)
-              trying-back still =
-                  record {
-                    given = t .given;
-                    levels = t .levels;
-                    sized = t .sized;
-                    placed = t .placed;
-                    counted = t .counted;
-                    forced-is = t .forced-is;
-                    shut-is = t .shut-is;
-                    tried = omega (arith, below);
-                    running = still;
-                    same = onwards;
-                  }
+                -- the allowance was used up below
+                pub trying-stopped : allowance < back .visits → stateOf allowance back ≡ whole
+                trying-stopped off =
+                    ended-state allowance back off ∙ sym (visit-stopped keepBest allowance (under rows shut g allowance k) partial (wordAt g (suc k) w) (remaining (j + 1)))
+                    ∙ ap (trial rows shut g allowance k partial w (remaining (j + 1))) (sym (ended-state allowance back off)) ∙ onwards
+
+                -- on to the next entry
+                pub trying-back : back .visits ≤ allowance → Trying rows change covered shut g allowance left partial w k size entries first back (j + 1)
+                trying-back still =
+                    record {
+                      given = t .given;
+                      levels = t .levels;
+                      sized = t .sized;
+                      counted = t .counted;
+                      tried = omega (arith, below);
+                      running = still;
+                      same = onwards;
+                    }
 
 -- a node with no level left keeps the word or not
-pub at-leaf : (rows : List (List ℕ)) (tree : Tree) (partial d left w : ℕ) (s back : Walked) → left ≡ 0 → s .visits ≤ tree .allowance → w ≡ wordAt tree d
+pub at-leaf : {rows : List (List ℕ)} {change covered shut : List ℕ} {g : Groups} {allowance left partial w : ℕ} {s : Walked}
+    → Given rows change covered shut g allowance left partial w s → left ≡ 0 → (back : Walked)
     → (keptOf back ≡ keep partial w (keptOf s)) × (back .visits ≡ s .visits)
-    → stateOf (tree .allowance) back ≡ wholly rows tree partial d left (stateOf (tree .allowance) s)
-at-leaf rows tree partial d left w s back none-left running isWord kept =
-    running-state (tree .allowance) back (rw (kept .1) running)
-    ∙ (λ i. some (record { kept = (kept .0 ∙ ap (λ (v : ℕ). keep partial v (keptOf s)) isWord) i; visits = kept .1 i }))
-    ∙ sym (walk-last keepBest (tree .allowance) (rowCandidates rows tree) partial (wordAt tree d) (runningOf s))
-    ∙ ap₂ (λ (l : ℕ) (o : Option (State keepBest)). under rows tree l partial (wordAt tree d) o) (sym none-left) (sym (running-state (tree .allowance) s running))
+    → stateOf allowance back ≡ wholly rows shut g allowance left partial w (stateOf allowance s)
+at-leaf {rows} {shut = shut} {g = g} {allowance} {left} {partial} {w} {s} given none-left back kept =
+    let own : wordAt g 0 w ≡ w = decided-all (g .n) (g .folding) (given .tables .grouped .fits) w (given .begun .small) in
+    running-state allowance back (rw (kept .1) (given .running))
+    ∙ (λ i. some (record { kept = (kept .0 ∙ ap (λ (v : ℕ). keep partial v (keptOf s)) (sym own)) i; visits = kept .1 i }))
+    ∙ sym (walk-last keepBest allowance (rowCandidates rows shut g) partial (wordAt g 0 w) (runningOf s))
+    ∙ ap₂ (λ (l : ℕ) (o : Option (State keepBest)). wholly rows shut g allowance l partial w o) (sym none-left) (sym (running-state allowance s (given .running)))
 
-module _ {rows : List (List ℕ)} {index covered bytes : List ℕ} {tree : Tree} {left partial d x : ℕ} {s : Walked}
-    (given : Given rows index covered bytes tree left partial d x s) (some-left : left ≡ 0 → ⊥) where
+module _ {rows : List (List ℕ)} {change covered shut : List ℕ} {g : Groups} {allowance left partial w : ℕ} {s : Walked}
+    (given : Given rows change covered shut g allowance left partial w s) (some-left : left ≡ 0 → ⊥) where
   levels-left : left ≡ suc (left - 1)
   levels-left = omega arith
 
   -- what is given where levels are left, by the group that is decided next
-  pub given-next : Given rows index covered bytes tree (suc (left - 1)) partial d x s
+  pub given-next : Given rows change covered shut g allowance (suc (left - 1)) partial w s
   given-next = rw levels-left at given
 
   -- the loop begins
-  pub trying-none : (forced shut : ℕ) → forced ≡ x / 2 ^ ((left - 1) * tree .size) % 2 ^ min (tree .size) 8
-      → shut ≡ tree .frozen / 2 ^ ((left - 1) * tree .size) % 2 ^ min (tree .size) 8
-      → Trying rows index covered bytes tree left partial d x (left - 1) (tree .size) ((left - 1) * tree .size) (1 * 2 ^ (tree .size) % 2 ^ 64) forced shut s s 0
-  trying-none forced shut isForced isShut =
+  pub trying-none : Trying rows change covered shut g allowance left partial w (left - 1) (g .size) (1 * 2 ^ (g .size) % 2 ^ 64) s s 0
+  trying-none =
       record {
         given = given-next;
         levels = levels-left;
         sized = refl;
-        placed = refl;
-        counted = power-shifted 64 (tree .size) (omega (arith, narrow given-next));
-        forced-is = block-is given-next x forced isForced;
-        shut-is = block-is given-next (tree .frozen) shut isShut;
+        counted = power-shifted 64 (g .size) (omega (arith, narrow given-next));
         tried = omega arith;
         running = given .running;
         same =
-            ap (λ (cs : List Candidate). trial rows tree (left - 1) partial d cs (stateOf (tree .allowance) s)) (sym (here given-next))
-            ∙ sym (walk-node keepBest (tree .allowance) (rowCandidates rows tree) (left - 1) partial (wordAt tree d) (stateOf (tree .allowance) s))
-            ∙ ap (λ (l : ℕ). under rows tree l partial (wordAt tree d) (stateOf (tree .allowance) s)) (sym levels-left);
+            ap (λ (cs : List Candidate). trial rows shut g allowance (left - 1) partial w cs (stateOf allowance s)) (sym (here given-next))
+            ∙ sym (walk-node keepBest allowance (rowCandidates rows shut g) (left - 1) partial (wordAt g (suc (left - 1)) w) (stateOf allowance s))
+            ∙ ap (λ (l : ℕ). wholly rows shut g allowance l partial w (stateOf allowance s)) (sym levels-left);
       }
