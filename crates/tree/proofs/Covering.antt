@@ -70,7 +70,14 @@ module _ {g : Groups} (given : Grouped g) where
     -- what a group covers, from what the rest of it covers
     moved : (spreadOf (g .n) (g .folding) (k - highest) < 2 ^ place)
         × (spreadOf (g .n) (g .folding) k ≡ spreadOf (g .n) (g .folding) (k - highest) + spreadOf (g .n) (g .folding) (k - highest) * 2 ^ place)
-    moved = ?
+    moved =
+        let b = is .power .0 in
+        let whole : 2 ^ b + (k - highest) ≡ k = omega (arith, is .power .1, is .above) in
+        let law =
+        spread-more (g .n) (g .folding) (given .fits) b (k - highest) (omega (arith, is .power .1, is .above, is .below))
+        (rw whole (rw (given .all) at inside))
+        in
+        rw (whole, ← is .power .1) at law
 
     -- as the code adds it: no one bit of the rest lies where it is moved to
     pub moved-xor : {l : List ℕ} → Seated l (g .n) (g .folding) → (rest : ℕ) → rest ≡ spreadOf (g .n) (g .folding) (k - highest)
