@@ -16,7 +16,7 @@ loop-holds : tie.Need-loop-holds Inv-loop μ-loop
 loop-holds c = turned-none _ _ _
 
 mul-xor : tie.Need-mul-xor Inv-loop μ-loop
-mul-xor c = omega (arith, c .before .before .before .pre, c .before .before .slice-known .given)
+mul-xor c = omega (arith, c .before .before .before .pre, c .before .before .before .good .0 .1)
 
 slice-read-xor : tie.Need-slice-read-xor Inv-loop μ-loop
 slice-read-xor c = omega (arith, c .before .before .before .before .pre, c .before .before .loop .inv .same)
@@ -25,10 +25,10 @@ xor-requires : tie.Need-xor-requires Inv-loop μ-loop
 xor-requires c κs = search needs
 
 add-words : tie.Need-add-words Inv-loop μ-loop
-add-words c = omega (arith, c .before .before .before .before .before .pre, c .before .before .before .before .slice-known .given)
+add-words c = omega (arith, c .before .before .before .before .before .pre, c .before .before .before .before .before .good .0 .1)
 
 mul-words : tie.Need-mul-words Inv-loop μ-loop
-mul-words c = omega (arith, c .before .before .before .before .before .pre, c .before .before .before .before .slice-known .given)
+mul-words c = omega (arith, c .before .before .before .before .before .pre, c .before .before .before .before .before .good .0 .1)
 
 slice-write-words : tie.Need-slice-write-words Inv-loop μ-loop
 slice-write-words c = omega (arith, c .before .before .before .before .before .pre, c .before .before .before .loop .inv .same)
