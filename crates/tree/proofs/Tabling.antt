@@ -82,15 +82,15 @@ module _ {g : Groups} (given : Grouped g) where
         (rw (bit-ones (g .size) t h, one-mul (2 ^ getD l t 0)) at (unseat-next seated (seat-within h) (2 ^ g .size - 1)))
 
     -- the frozen indices of a group, from the indices of group 0
-    pub shut-here : (mask : ℕ) {k : ℕ} → k < g .count
-        → bitAnd mask (unseat (g .n) (g .folding) (2 ^ g .size - 1) * 2 ^ getD l (k * g .size) 0 % 2 ^ 64) ≡ shutOf (g .n) (g .folding) mask k
-    shut-here mask {k = k} h =
+    pub shut-here : (mask own : ℕ) → own ≡ unseat (g .n) (g .folding) (2 ^ g .size - 1) → {k : ℕ} → k < g .count
+        → bitAnd mask (own * 2 ^ getD l (k * g .size) 0 % 2 ^ 64) ≡ shutOf (g .n) (g .folding) mask k
+    shut-here mask own e {k = k} h =
         let inside = rw (given .all) at h in
         let fits : unseat (g .n) (g .folding) (2 ^ (2 ^ ones (g .folding)) - 1) * 2 ^ seatIndex (g .n) (g .folding) (k * 2 ^ ones (g .folding)) < 2 ^ 64 =
         rw (← unseat-block (g .n) (g .folding) (given .fits) k (2 ^ (2 ^ ones (g .folding)) - 1) inside (ones-lt (2 ^ ones (g .folding))))
         (lt-of-lt-of-le (unseat-lt (g .n) (g .folding) (given .fits) _) (pow-mono {j = 64} (pow-mono {j = 6} (given .small))))
         in
-        rw (index-at seated (k * g .size) (first-seat h), given .sized, mod-eq-of-lt fits) (shut-is (g .n) (g .folding) (given .fits) mask k inside)
+        rw (e, index-at seated (k * g .size) (first-seat h), given .sized, mod-eq-of-lt fits) (shut-is (g .n) (g .folding) (given .fits) mask k inside)
 
     -- the codeword of an index of group 0, as the code makes it
     pub column-is : {t : ℕ} → t < g .size → codeword 6 (1 * 2 ^ getD l t 0 % 2 ^ 64) ≡ codeword (g .n) (2 ^ seatIndex (g .n) (g .folding) t)
@@ -134,17 +134,29 @@ changed-first g l long first = record { long = long; inside = omega arith; done 
     go : (u : ℕ) → u ≡ 0 → getD l u 0 ≡ changeOf (g .n) (g .folding) 0 u
     go u e = rw (e, zero-mul (2 ^ (0 * 2 ^ ones (g .folding))), unseat-zero (g .n) (g .folding), codeword-zero (g .n)) first
 
--- one slot more doubles the patterns
-pub changed-next : {g : Groups} {l after : List ℕ} {t column : ℕ} → Grouped g → Changed g l t → t < g .size → length after ≡ length l
-    → column ≡ codeword (g .n) (2 ^ seatIndex (g .n) (g .folding) t) → Doubled l after (2 ^ t) column → Changed g after (t + 1)
-changed-next {g} {l} {after} {t} {column} given changed h same is doubled =
-    record { long = same ∙ changed .long; inside = omega arith; done = λ u l. go u l (decLt u (2 ^ t)) }
-  where
-    upper : (d : ℕ) → d < 2 ^ t → getD after (2 ^ t + d) 0 ≡ changeOf (g .n) (g .folding) 0 (2 ^ t + d)
-    upper d l = doubled .added d l ∙ ap₂ bitXor (changed .done d l) is ∙ sym (change-more (g .n) (g .folding) (given .fits) t d (rw (given .sized) at h) l)
+module _ {g : Groups} (given : Grouped g) {l : List ℕ} {t : ℕ} (changed : Changed g l t) (h : t < g .size) where
+  -- how many patterns there are so far, as the machine shifts it
+  many-is : 1 * 2 ^ t % 2 ^ 64 ≡ 2 ^ t
+  many-is = power-shifted 64 t (omega (arith, h, size-small given))
 
-    go : (u : ℕ) → u < 2 ^ (t + 1) → Dec (u < 2 ^ t) → getD after u 0 ≡ changeOf (g .n) (g .folding) 0 u
-    go u l (yes below) = doubled .kept u below ∙ changed .done u below
-    go u l (no above) =
-        let d = le-dest {n = 2 ^ t} {m = u} (omega arith) in
-        rw (← d .1) (upper (d .0) (omega (arith, d .1, two-pow-succ t, rw (add-one t) at l)))
+  -- there is room for as many more
+  pub room-for-more : 1 * 2 ^ t % 2 ^ 64 + 1 * 2 ^ t % 2 ^ 64 ≤ length l
+  room-for-more = rw (many-is, changed .long) (omega (arith, two-pow-succ t, pow-mono {i = suc t} {j = 8} (omega (arith, h, size-small given))))
+
+  -- one slot more doubles the patterns
+  pub changed-next : {after : List ℕ} {column : ℕ} → length after ≡ length l → column ≡ codeword (g .n) (2 ^ seatIndex (g .n) (g .folding) t)
+      → Doubled l after (1 * 2 ^ t % 2 ^ 64) column → Changed g after (t + 1)
+  changed-next {after = after} {column = column} same is made =
+      record { long = same ∙ changed .long; inside = omega (arith, h); done = λ u l. go u l (decLt u (2 ^ t)) }
+    where
+      doubled : Doubled l after (2 ^ t) column
+      doubled = rw many-is at made
+
+      upper : (d : ℕ) → d < 2 ^ t → getD after (2 ^ t + d) 0 ≡ changeOf (g .n) (g .folding) 0 (2 ^ t + d)
+      upper d l = doubled .added d l ∙ ap₂ bitXor (changed .done d l) is ∙ sym (change-more (g .n) (g .folding) (given .fits) t d (rw (given .sized) at h) l)
+
+      go : (u : ℕ) → u < 2 ^ (t + 1) → Dec (u < 2 ^ t) → getD after u 0 ≡ changeOf (g .n) (g .folding) 0 u
+      go u l (yes below) = doubled .kept u below ∙ changed .done u below
+      go u l (no above) =
+          let d = le-dest {n = 2 ^ t} {m = u} (omega arith) in
+          rw (← d .1) (upper (d .0) (omega (arith, d .1, two-pow-succ t, rw (add-one t) at l)))
