@@ -2,25 +2,33 @@
 use Prim.Native.Nat.{ℕ, suc, _+_, _-_, _*_, _%_, _^_, _≤_, _<_}
 use mathlib.Core.Path.{_≡_, refl, sym, ap, ap₂, _∙_}
 use mathlib.Core.List.{List}
-use native.Mathlib.Nat.{add-comm, add-mul, zero-mul, two-pow-succ, mul-one, mul-le-mul-left, mul-le-mul-right, mul-lt-mul-of-pos-right, mod-eq-of-lt}
-use native.Mathlib.Decide.{decLt, ℕ-discrete}
+use native.Mathlib.Nat.{add-comm, two-pow-succ, mod-eq-of-lt, lt-of-lt-of-le}
 use native.Mathlib.Omega.{arith}
 use lib.Bits.{bitXor, xor-comm, xor-shifted}
+use lib.Count.{ones}
 use lib.ListN.{length, set, getD, length-set}
-use lib.Pow.{pow-add, pow-lt, pow-mono, pow-pos}
-use lib.Seq.{getD-set-same, getD-set-other}
-use Rattle.rules.specs.Word.{codeword}
-use Rattle.laws.specs.Matrix.{codeword-lt, codeword-one, codeword-longer, codeword-moved}
-use Rattle.tree.specs.Costs.{GroupSize}
-use Rattle.tree.specs.Seating.{Covered}
+use lib.Pow.{pow-mono, pow-pos}
+use Rattle.laws.specs.Matrix.{codeword-lt}
+use Rattle.laws.specs.Each.{each-stored}
+use Rattle.laws.specs.Copied.{spreadOf, spread-first, spread-more}
+use Rattle.laws.specs.Seats.{seatIndex}
+use Rattle.tree.specs.declared.group.Groups.{Groups}
+use Rattle.tree.specs.Grouping.{Grouped}
+use Rattle.tree.specs.Seating.{Seated}
+use Rattle.tree.proofs.SeatLoops.{index-at}
+use Rattle.tree.proofs.Tabling.{few-groups, first-seat}
+
+-- the groups below k are done
+abbrev Done : Groups → List ℕ → ℕ → Type 0
+Done g r k = (j : ℕ) → j < k → getD r j 0 ≡ spreadOf (g .n) (g .folding) j
 
 -- the loop's invariant: the groups below k are done, and highest is a power of two
-pub record Covering (size : ℕ) (r : List ℕ) (highest k : ℕ) : Type 0 where
+pub record Covering (g : Groups) (r : List ℕ) (highest k : ℕ) : Type 0 where
   pub long : length r ≡ 64
   pub power : (b : ℕ) × (highest ≡ 2 ^ b)
   pub above : highest ≤ k
   pub below : k ≤ highest * 2
-  pub done : Covered r k size
+  pub done : Done g r k
 
 -- the highest one bit of k
 pub record Highest (highest k : ℕ) : Type 0 where
@@ -33,7 +41,7 @@ pub some-power : {highest : ℕ} → (b : ℕ) × (highest ≡ 2 ^ b) → 0 < hi
 some-power power = rw (power .1) (pow-pos (power .0))
 
 -- the test: k is the next power of two, or highest stays
-module _ {size : ℕ} {r : List ℕ} {highest k : ℕ} (inv : Covering size r highest k) where
+module _ {g : Groups} {r : List ℕ} {highest k : ℕ} (inv : Covering g r highest k) where
   pub highest-itself : k ≡ highest * 2 → Highest k k
   highest-itself e =
       record {
@@ -45,83 +53,54 @@ module _ {size : ℕ} {r : List ℕ} {highest k : ℕ} (inv : Covering size r hi
   pub highest-still : (k ≡ highest * 2 → ⊥) → Highest highest k
   highest-still other = record { power = inv .power; above = inv .above; below = omega (arith, inv .below, other) }
 
--- group 0 covers itself alone
-pub covering-first : (size : ℕ) (r : List ℕ) → length r ≡ 64 → getD r 0 0 ≡ 1 → Covering size r 1 1
-covering-first size r long first =
-    record { long = long; power = (0, refl); above = omega arith; below = omega arith; done = λ k h. go k (omega arith) }
-  where
-    go : (k : ℕ) → k ≡ 0 → getD r k 0 ≡ codeword 6 (2 ^ (k * size))
-    go k e = rw (e, zero-mul size) (first ∙ sym (codeword-one 6))
+module _ {g : Groups} (given : Grouped g) where
+  -- group 0 covers itself alone
+  pub covering-first : (r : List ℕ) → length r ≡ 64 → getD r 0 0 ≡ 1 → Covering g r 1 1
+  covering-first r long first =
+      record { long = long; power = (0, refl); above = omega arith; below = omega arith; done = λ k h. go k (omega arith) }
+    where
+      go : (k : ℕ) → k ≡ 0 → getD r k 0 ≡ spreadOf (g .n) (g .folding) k
+      go k e = rw e (first ∙ sym (spread-first (g .n) (g .folding) (given .fits)))
 
-module _ (groups size : ℕ) (given : GroupSize size × (groups * size ≤ 64)) where
-  some-size : 0 < size
-  some-size = rw (given .0 .2) (pow-pos (given .0 .0))
-
-  -- there are no more groups than seats
-  pub few-groups : groups ≤ 64
-  few-groups = omega (arith, mul-le-mul-left groups some-size, mul-one groups, given .1)
-
-  module _ {highest k : ℕ} (is : Highest highest k) (inside : k < groups) where
-    -- the highest one bit is that of a seat
-    pub moves : highest * size < 64
-    moves =
-        omega (
-          arith,
-          mul-le-mul-right {m = highest} {n = k} size (is .above),
-          mul-lt-mul-of-pos-right {m = k} {n = groups} inside some-size,
-          given .1,
-        )
-
-    abbrev n : ℕ
-    n = is .power .0 + given .0 .0
-
-    power : highest * size ≡ 2 ^ n
-    power = ap₂ (λ (a b : ℕ). a * b) (is .power .1) (given .0 .2) ∙ sym (pow-add 2 (is .power .0) (given .0 .0))
-
-    short : n < 6
-    short = go (decLt n 6)
-      where
-        go : Dec (n < 6) → n < 6
-        go (yes h) = h
-        go (no h) = absurd (omega (arith, power, moves, pow-mono {i = 6} {j = n} (omega arith)))
-
-    rest-lt : 2 ^ ((k - highest) * size) < 2 ^ (2 ^ n)
-    rest-lt = pow-lt (rw (← power) (mul-lt-mul-of-pos-right (omega (arith, is .above, is .below)) some-size))
-
-    -- what the rest covers lies below the highest one bit
-    rest-small : codeword 6 (2 ^ ((k - highest) * size)) < 2 ^ (highest * size)
-    rest-small = rw (codeword-longer n 6 _ (omega (arith, short)) rest-lt, power) (codeword-lt n _)
+  module _ {highest k : ℕ} (is : Highest highest k) (inside : k < g .count) where
+    -- the place that the highest one bit has alone
+    abbrev place : ℕ
+    place = seatIndex (g .n) (g .folding) (highest * 2 ^ ones (g .folding))
 
     -- what a group covers, from what the rest of it covers
-    moved : (rest : ℕ) → rest ≡ codeword 6 (2 ^ ((k - highest) * size)) → rest + rest * 2 ^ (highest * size) ≡ codeword 6 (2 ^ (k * size))
-    moved rest e =
-        let whole : (k - highest) * size + highest * size ≡ k * size =
-        sym (add-mul (k - highest) highest size) ∙ ap (λ (m : ℕ). m * size) (omega (arith, is .above))
+    moved : (spreadOf (g .n) (g .folding) (k - highest) < 2 ^ place)
+        × (spreadOf (g .n) (g .folding) k ≡ spreadOf (g .n) (g .folding) (k - highest) + spreadOf (g .n) (g .folding) (k - highest) * 2 ^ place)
+    moved =
+        let b = is .power .0 in
+        let whole : 2 ^ b + (k - highest) ≡ k = omega (arith, is .power .1, is .above) in
+        let law =
+        spread-more (g .n) (g .folding) (given .fits) b (k - highest) (omega (arith, is .power .1, is .above, is .below))
+        (rw whole (rw (given .all) at inside))
         in
-        ap₂ (λ (a s : ℕ). a + a * 2 ^ s) e power
-        ∙ sym (codeword-moved n 6 (2 ^ ((k - highest) * size)) short rest-lt)
-        ∙ ap (codeword 6) (sym (pow-add 2 _ (2 ^ n)) ∙ ap (λ (s : ℕ). 2 ^ ((k - highest) * size + s)) (sym power) ∙ ap (λ (s : ℕ). 2 ^ s) whole)
+        rw (whole, ← is .power .1) at law
 
     -- as the code adds it: no one bit of the rest lies where it is moved to
-    pub moved-xor : (rest : ℕ) → rest ≡ codeword 6 (2 ^ ((k - highest) * size))
-        → bitXor rest (rest * 2 ^ (highest * size) % 2 ^ 64) ≡ codeword 6 (2 ^ (k * size))
-    moved-xor rest e =
-        let all = moved rest e in
-        let fits : rest * 2 ^ (highest * size) < 2 ^ 64 = omega (arith, all, codeword-lt 6 (2 ^ (k * size))) in
-        ap (bitXor rest) (mod-eq-of-lt fits) ∙ xor-comm rest (rest * 2 ^ (highest * size))
-        ∙ xor-shifted rest (highest * size) rest (rw e rest-small) ∙ add-comm (rest * 2 ^ (highest * size)) rest ∙ all
+    pub moved-xor : {l : List ℕ} → Seated l (g .n) (g .folding) → (rest : ℕ) → rest ≡ spreadOf (g .n) (g .folding) (k - highest)
+        → bitXor rest (rest * 2 ^ getD l (highest * g .size) 0 % 2 ^ 64) ≡ spreadOf (g .n) (g .folding) k
+    moved-xor {l} seated rest e =
+        let at : getD l (highest * g .size) 0 ≡ place =
+        index-at seated (highest * g .size) (first-seat given (omega (arith, is .above))) ∙ ap (λ (s : ℕ). seatIndex (g .n) (g .folding) (highest * s)) (given .sized)
+        in
+        let all : rest + rest * 2 ^ place ≡ spreadOf (g .n) (g .folding) k = ap (λ (x : ℕ). x + x * 2 ^ place) e ∙ sym (moved .1) in
+        let small : spreadOf (g .n) (g .folding) k < 2 ^ 64 =
+        lt-of-lt-of-le (codeword-lt (g .n) _) (pow-mono {j = 64} (pow-mono {j = 6} (given .small)))
+        in
+        let fits : rest * 2 ^ place < 2 ^ 64 = omega (arith, all, small) in
+        ap (λ (i : ℕ). bitXor rest (rest * 2 ^ i % 2 ^ 64)) at ∙ ap (bitXor rest) (mod-eq-of-lt fits) ∙ xor-comm rest (rest * 2 ^ place)
+        ∙ xor-shifted rest place rest (rw e (moved .0)) ∙ add-comm (rest * 2 ^ place) rest ∙ all
 
     -- one group more
-    pub covering-next : (r : List ℕ) (v : ℕ) → length r ≡ 64 → Covered r k size → v ≡ codeword 6 (2 ^ (k * size)) → Covering size (set r k v) highest (k + 1)
+    pub covering-next : (r : List ℕ) (v : ℕ) → length r ≡ 64 → Done g r k → v ≡ spreadOf (g .n) (g .folding) k → Covering g (set r k v) highest (k + 1)
     covering-next r v long done e =
         record {
           long = length-set r k v ∙ long;
           power = is .power;
           above = omega (arith, is .above);
           below = omega (arith, is .below);
-          done = λ j h. go j h (ℕ-discrete j k);
+          done = each-stored (spreadOf (g .n) (g .folding)) 0 r k v (omega (arith, long, few-groups given)) e done;
         }
-      where
-        go : (j : ℕ) → j < k + 1 → Dec (j ≡ k) → getD (set r k v) j 0 ≡ codeword 6 (2 ^ (j * size))
-        go j h (yes same) = rw same (getD-set-same r k v 0 (omega (arith, long, few-groups)) ∙ e)
-        go j h (no other) = getD-set-other r k j v 0 other ∙ done j (omega arith)

@@ -2,6 +2,7 @@ pub mod Keeping
 pub mod Widening
 pub mod WideningBy
 pub mod SeatLoops
+pub mod Tabling
 pub mod Covering
 pub mod Packing
 pub mod Rows

@@ -1,4 +1,4 @@
--- Words put into the order of the seats and back, seat by seat.
+-- The index at a seat, and a word put back in index order seat by seat.
 use Prim.Native.Nat.{ℕ, _+_, _*_, _^_, _≤_, _<_}
 use mathlib.Core.Path.{_≡_, sym, ap, _∙_}
 use mathlib.Core.List.{List}
@@ -10,9 +10,7 @@ use lib.Pow.{pow-mono}
 use lib.Seq.{getD-take}
 use Rattle.rules.specs.Word.{bit}
 use Rattle.laws.specs.Seats.{seatIndex, seat-below}
-use Rattle.laws.specs.SeatWords.{seatBelow, unseatBelow, seat-step, unseat-step}
-use Rattle.word.specs.Words.{sizeOf}
-use Rattle.word.specs.Sizes.{slots-are}
+use Rattle.laws.specs.SeatWords.{unseatBelow, unseat-step}
 use Rattle.tree.specs.Seating.{Seated}
 
 module _ {l : List ℕ} {n folding : ℕ} (given : Seated l n folding) where
@@ -20,20 +18,15 @@ module _ {l : List ℕ} {n folding : ℕ} (given : Seated l n folding) where
   pub seats-fit : 2 ^ n ≤ 64
   seats-fit = pow-mono (given .few)
 
-  pub seat-here : (slots : ℕ) → slots ≡ 2 ^ sizeOf n → (p : ℕ) → p < slots → p < 2 ^ n
-  seat-here slots e p h = rw (← slots-are n slots (given .few) e) h
-
   -- the index at a seat
   pub index-at : (p : ℕ) → p < 2 ^ n → getD l p 0 ≡ seatIndex n folding p
   index-at p h = sym (getD-take (2 ^ n) l p 0 h) ∙ ap (λ (x : List ℕ). getD x p 0) (given .listed)
 
   module _ {p : ℕ} (h : p < 2 ^ n) where
+    -- is an index of the largest block
     pub index-fits : getD l p 0 < 64
     index-fits = rw (index-at p h) (lt-of-lt-of-le (seat-below n folding (given .fits) p h) seats-fit)
 
-    -- one seat more, in either direction
-    pub seat-next : (w : ℕ) → bitXor (seatBelow n folding w p) (bit w (getD l p 0) * 2 ^ p) ≡ seatBelow n folding w (p + 1)
-    seat-next w = rw (index-at p h, add-one p) (seat-step n folding w p)
-
+    -- one seat more
     pub unseat-next : (w : ℕ) → bitXor (unseatBelow n folding w p) (bit w p * 2 ^ getD l p 0) ≡ unseatBelow n folding w (p + 1)
     unseat-next w = rw (index-at p h, add-one p) (unseat-step n folding (given .fits) w p h)

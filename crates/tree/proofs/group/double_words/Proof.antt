@@ -1,0 +1,71 @@
+-- `tree::group::double_words` meets its contract. Invariant: the first m words are kept, and u of them added behind.
+use Prim.Native.Nat.{_-_}
+use native.Mathlib.Omega.{arith}
+use borrow.Author.Needs.{needs}
+use Rattle.tree.proofs.Tabling.{Turned, turned-none, turned-next}
+use Rattle.tree.proofs.group.double_words.Statement.{statement}
+use Rattle.tree.proofs.group.double_words.Tie as tie
+
+abbrev Inv-loop : tie.InvT-loop
+Inv-loop words₀ m column u₀ words u = Turned words₀ words m column u
+
+abbrev μ-loop : tie.MeasureT-loop
+μ-loop words₀ m column u₀ words u = m - u
+
+loop-holds : tie.Need-loop-holds Inv-loop μ-loop
+loop-holds c = turned-none _ _ _
+
+mul-xor : tie.Need-mul-xor Inv-loop μ-loop
+mul-xor c = omega (arith, c .before .before .before .pre, c .before .before .before .good .0 .1)
+
+slice-read-xor : tie.Need-slice-read-xor Inv-loop μ-loop
+slice-read-xor c = omega (arith, c .before .before .before .before .pre, c .before .before .loop .inv .same)
+
+xor-requires : tie.Need-xor-requires Inv-loop μ-loop
+xor-requires c κs = search needs
+
+add-words : tie.Need-add-words Inv-loop μ-loop
+add-words c = omega (arith, c .before .before .before .before .before .pre, c .before .before .before .before .before .good .0 .1)
+
+mul-words : tie.Need-mul-words Inv-loop μ-loop
+mul-words c = omega (arith, c .before .before .before .before .before .pre, c .before .before .before .before .before .good .0 .1)
+
+slice-write-words : tie.Need-slice-write-words Inv-loop μ-loop
+slice-write-words c = omega (arith, c .before .before .before .before .before .pre, c .before .before .before .loop .inv .same)
+
+add-u : tie.Need-add-u Inv-loop μ-loop
+add-u c = omega arith
+
+loop-less : tie.Need-loop-less Inv-loop μ-loop
+loop-less c = omega arith
+
+loop-again : tie.Need-loop-again Inv-loop μ-loop
+loop-again c =
+    turned-next (c .before .before .before .loop .inv) (c .before .before .before .before .before .pre) (c .before .before .loop-test .taken) _ (c .xor .ensures)
+
+same-length : tie.Need-same-length Inv-loop μ-loop
+same-length c = c .before .loop .inv .same
+
+returns : tie.Need-returns Inv-loop μ-loop
+returns c =
+    let turned = c .before .loop .inv in
+    record { kept = turned .kept; added = λ u h. turned .added u (omega arith) }
+
+pub double-words-spec : {M : Type 1} → statement M
+double-words-spec =
+    tie.close
+    (tie.spec
+    Inv-loop
+    μ-loop
+    loop-holds
+    mul-xor
+    slice-read-xor
+    xor-requires
+    add-words
+    mul-words
+    slice-write-words
+    add-u
+    loop-less
+    loop-again
+    same-length
+    returns)

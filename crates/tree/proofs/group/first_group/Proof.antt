@@ -1,0 +1,68 @@
+-- `tree::group::first_group` meets its contract. Invariant: the word has a one at the index of each seat below t.
+use Prim.Native.Nat.{_-_, _^_, _≤_}
+use mathlib.Core.Path.{_≡_, refl, ap, ap₂, _∙_}
+use native.Mathlib.Omega.{arith}
+use lib.Bits.{bitXor}
+use borrow.Author.Needs.{needs}
+use Rattle.rules.specs.Below.{sumBelow}
+use Rattle.laws.specs.SeatWords.{unseatBelow}
+use Rattle.tree.proofs.Tabling.{size-small, group-next, group-whole}
+use Rattle.tree.proofs.group.first_group.Statement.{statement}
+use Rattle.tree.proofs.group.first_group.Tie as tie
+
+abbrev Inv-loop : tie.InvT-loop
+Inv-loop index groups r₀ t₀ r t = (t ≤ groups .size) × (r ≡ unseatBelow (groups .n) (groups .folding) (2 ^ groups .size - 1) t)
+
+abbrev μ-loop : tie.MeasureT-loop
+μ-loop index groups r₀ t₀ r t = groups .size - t
+
+loop-holds : tie.Need-loop-holds Inv-loop μ-loop
+unfolding sumBelow
+loop-holds c = (omega arith, refl)
+
+mul-above : tie.Need-mul-above Inv-loop μ-loop
+mul-above c = omega (arith, size-small (c .before .before .before .pre .0))
+
+element-copy-out-above : tie.Need-element-copy-out-above Inv-loop μ-loop
+element-copy-out-above c = omega (arith, size-small (c .before .before .before .pre .0))
+
+above-requires : tie.Need-above-requires Inv-loop μ-loop
+above-requires c κs = search needs
+
+xor-requires : tie.Need-xor-requires Inv-loop μ-loop
+xor-requires c κs = search needs
+
+add-t : tie.Need-add-t Inv-loop μ-loop
+add-t c = omega (arith, size-small (c .before .before .before .before .before .before .pre .0))
+
+loop-less : tie.Need-loop-less Inv-loop μ-loop
+loop-less c = omega arith
+
+loop-again : tie.Need-loop-again Inv-loop μ-loop
+loop-again c =
+    let given = c .before .before .before .before .before .before .pre in
+    let inside = c .before .before .before .if1 .taken in (
+      omega arith,
+      c .xor .ensures ∙ ap₂ bitXor (c .before .before .before .before .before .loop .inv .1) (c .before .above .ensures) ∙ group-next (given .0) (given .1) inside,
+    )
+
+returns : tie.Need-returns Inv-loop μ-loop
+returns c =
+    let inv = c .before .before .loop .inv in
+    inv .1 ∙ ap (unseatBelow _ _ _) (omega arith) ∙ group-whole (c .before .before .before .pre .0)
+
+pub first-group-spec : {M : Type 1} → statement M
+first-group-spec =
+    tie.close
+    (tie.spec
+    Inv-loop
+    μ-loop
+    loop-holds
+    mul-above
+    element-copy-out-above
+    above-requires
+    xor-requires
+    add-t
+    loop-less
+    loop-again
+    returns)

@@ -1,0 +1,94 @@
+-- `tree::group::shut` meets its contract. Invariant: the groups below k are done.
+use Prim.Native.Nat.{ℕ, _-_, _*_, _<_}
+use mathlib.Core.Path.{_≡_, refl, ap, _∙_}
+use native.Mathlib.Omega.{arith}
+use lib.Bits.{bitAnd}
+use lib.ListN.{length, length-set, getD}
+use borrow.Author.Needs.{needs}
+use Rattle.laws.specs.Each.{each-stored}
+use Rattle.laws.specs.Decided.{shutOf}
+use Rattle.tree.proofs.SeatLoops.{seats-fit}
+use Rattle.tree.proofs.Tabling.{few-groups, first-seat, shut-here}
+use Rattle.tree.proofs.group.shut.Statement.{statement}
+use Rattle.tree.proofs.group.shut.Tie as tie
+
+abbrev Inv-loop : tie.InvT-loop
+Inv-loop index groups frozen own r₀ k₀ r k =
+    (length r ≡ 64) × ((j : ℕ) → j < k → getD r j 0 ≡ shutOf (groups .n) (groups .folding) frozen j)
+
+abbrev μ-loop : tie.MeasureT-loop
+μ-loop index groups frozen own r₀ k₀ r k = groups .count - k
+
+first-group-requires : tie.Need-first-group-requires Inv-loop μ-loop
+first-group-requires c κs = c .pre
+
+loop-holds : tie.Need-loop-holds Inv-loop μ-loop
+loop-holds c = (refl, λ j h. absurd (omega arith))
+
+-- the first seat of a group
+seat-at : (c : tie.After-struct-known2 Inv-loop μ-loop) → c .before .before .before .loop .k * c .before .before .before .before .before .args .groups .size < 64
+seat-at c =
+    let given = c .before .before .before .before .before .pre in
+    omega (arith, first-seat (given .0) {k = c .before .before .before .loop .k} (c .before .if1 .taken), seats-fit (given .1))
+
+mul-first : tie.Need-mul-first Inv-loop μ-loop
+mul-first c = omega (arith, seat-at c)
+
+mul-above : tie.Need-mul-above Inv-loop μ-loop
+mul-above c = omega (arith, seat-at c)
+
+element-copy-out-above : tie.Need-element-copy-out-above Inv-loop μ-loop
+element-copy-out-above c = seat-at c
+
+above-requires : tie.Need-above-requires Inv-loop μ-loop
+above-requires c κs = search needs
+
+common-requires : tie.Need-common-requires Inv-loop μ-loop
+common-requires c κs = search needs
+
+mul-r : tie.Need-mul-r Inv-loop μ-loop
+mul-r c = omega (arith, few-groups (c .before .before .before .before .before .before .before .before .pre .0), c .before .before .before .before .if1 .taken)
+
+array-write-r : tie.Need-array-write-r Inv-loop μ-loop
+array-write-r c = omega (arith, few-groups (c .before .before .before .before .before .before .before .before .pre .0), c .before .before .before .before .if1 .taken)
+
+add-k : tie.Need-add-k Inv-loop μ-loop
+add-k c = omega (arith, few-groups (c .before .before .before .before .before .before .before .before .pre .0), c .before .before .before .before .if1 .taken)
+
+loop-less : tie.Need-loop-less Inv-loop μ-loop
+loop-less c = omega (arith, c .before .before .before .before .if1 .taken)
+
+loop-again : tie.Need-loop-again Inv-loop μ-loop
+loop-again c =
+    let given = c .before .before .before .before .before .before .before .before .pre in
+    let frozen = c .before .before .before .before .before .before .before .before .args .frozen in
+    let inv = c .before .before .before .before .before .before .loop .inv in
+    let inside = c .before .before .before .before .if1 .taken in (
+      length-set (c .before .before .before .before .before .before .loop .r) _ _ ∙ inv .0,
+      each-stored (shutOf _ _ frozen) 0 (c .before .before .before .before .before .before .loop .r) _ _ (omega (arith, inv .0, few-groups (given .0), inside))
+          (c .common .ensures ∙ ap (bitAnd frozen) (c .before .above .ensures) ∙ shut-here (given .0) (given .1) frozen _ (c .before .before .before .before .before .before .before .first-group .ensures) inside)
+          (inv .1),
+    )
+
+returns : tie.Need-returns Inv-loop μ-loop
+returns c k h = c .before .before .loop .inv .1 k (omega (arith, c .if1 .left))
+
+pub shut-spec : {M : Type 1} → statement M
+shut-spec =
+    tie.close
+    (tie.spec
+    Inv-loop
+    μ-loop
+    first-group-requires
+    loop-holds
+    mul-first
+    mul-above
+    element-copy-out-above
+    above-requires
+    common-requires
+    mul-r
+    array-write-r
+    add-k
+    loop-less
+    loop-again
+    returns)
