@@ -1,0 +1,175 @@
+-- `tree::search` meets its contract: the steps make what the walk asks, and the walk's end decides the answer.
+use Prim.Native.Nat.{ℕ, _^_}
+use mathlib.Core.Path.{_≡_, sym, _∙_}
+use mathlib.Core.Bool.{false}
+use mathlib.Core.Option.{none, some}
+use native.Mathlib.Omega.{arith}
+use lib.Dec.{ltb}
+use borrow.Author.Needs.{needs}
+use Rattle.tree.specs.Seating.{Seated}
+use Rattle.tree.specs.Grouping.{Grouped}
+use Rattle.tree.specs.Empty.{firstEmpty}
+use Rattle.tree.specs.Search.{Searchable}
+use Rattle.tree.specs.declared.group.Groups.{Groups}
+use Rattle.tree.proofs.Emptiness.{few-shut}
+use Rattle.tree.proofs.Searching.{levelled, tables-right, walked}
+use Rattle.tree.proofs.Found.{Ends, used-up, enough, distance-fits, visits-fit, found-right, answer-seven, answer-eight, answer-found}
+use Rattle.tree.proofs.search.Statement.{statement}
+use Rattle.tree.proofs.search.Tie as tie
+
+-- what holds of one n and folding holds of the same
+onto : (P : ℕ → ℕ → Type 0) {a b c d : ℕ} → a ≡ b → c ≡ d → P a c → P b d
+onto P e f x = rw (← e, ← f) x
+
+-- after the seats: the groups, which are those of n and the folding, and what is given of these
+abbrev all : tie.After-seats → Groups
+all c = c .before .all-groups .result
+
+same-n : (c : tie.After-seats) → all c .n ≡ c .before .before .args .n
+same-n c = c .before .all-groups .ensures .0
+
+same-folding : (c : tie.After-seats) → all c .folding ≡ c .before .before .args .folding
+same-folding c = c .before .all-groups .ensures .1
+
+grouped : (c : tie.After-seats) → Grouped (all c)
+grouped c = c .before .all-groups .ensures .2
+
+given : (c : tie.After-seats) → Searchable (all c .n) (c .before .before .args .levels .now) (all c .folding)
+given c = onto (λ n folding. Searchable n (c .before .before .args .levels .now) folding) (sym (same-n c)) (sym (same-folding c)) (c .before .before .pre)
+
+seated : (c : tie.After-seats) → Seated (c .seats .result) (all c .n) (all c .folding)
+seated c = onto (Seated _) (sym (same-n c)) (sym (same-folding c)) (c .seats .ensures)
+
+all-groups-requires : tie.Need-all-groups-requires
+all-groups-requires c κs = search needs
+
+seats-requires : tie.Need-seats-requires
+seats-requires c κs = search needs
+
+shut-requires : tie.Need-shut-requires
+shut-requires c κs = (grouped (c .before), seated (c .before))
+
+first-empty-requires : tie.Need-first-empty-requires
+first-empty-requires c κs =
+    let seats = c .before .before .before in
+    (grouped seats, few-shut (grouped seats) (c .before .shut .result) (seats .before .before .args .frozen) (c .before .shut .ensures))
+
+returns : tie.Need-returns
+returns c =
+    let seats = c .before .before .before .before .before .before in
+    let first = c .before .before .first-empty .ensures _ (c .before .before .before .before .shut .ensures) in
+    answer-seven _ _ _ _ _ _ (onto (λ n folding. firstEmpty n (seats .before .before .args .frozen) folding ≡ some (c .before .before .first-empty .result)) (same-n seats) (same-folding seats) (first .named (c .if1 .taken)))
+
+rows-requires : tie.Need-rows-requires
+rows-requires c κs =
+    let seats = c .before .before .before .before .before .before .before in
+    ((_, grouped seats .few, grouped seats .sized), levelled (grouped seats) (given seats) (seated seats))
+
+changes-requires : tie.Need-changes-requires
+changes-requires c κs =
+    let seats = c .before .before .before .before .before .before .before .before .before in (grouped seats, seated seats)
+
+covered-requires : tie.Need-covered-requires
+covered-requires c κs =
+    let seats = c .before .before .before .before .before .before .before .before .before .before .before in (grouped seats, seated seats)
+
+walk-requires : tie.Need-walk-requires
+walk-requires c κs =
+    let covered = c .before .before .before .before in
+    let rows = covered .before .before .before .before in
+    let shut = rows .before .before .before .before .before .before in
+    let seats = shut .before .before in (
+      tables-right (grouped seats) (given seats) (seated seats) _ (rows .rows .ensures) _ _ _ _ (covered .before .before .changes .ensures) (covered .covered .ensures) (shut .shut .ensures),
+      seats .before .before .fits .allowance .fits,
+    )
+
+used-up-requires : tie.Need-used-up-requires
+used-up-requires c κs = search needs
+
+-- after the walk: what was given, that every level has a candidate, and what the walk ended with
+abbrev shutting : tie.After-walk → tie.After-shut
+shutting c = c .before .before .before .before .before .before .before .before .before .before .before .before .before .before .before
+
+abbrev begun : tie.After-walk → tie.Start
+begun c = shutting c .before .before .before .before
+
+candidates : (c : tie.After-walk) → firstEmpty (begun c .args .n) (begun c .args .frozen) (begun c .args .folding) ≡ none
+candidates c =
+    let seats = shutting c .before .before in
+    let first = c .before .before .before .before .before .before .before .before .before .before .before .before .before .first-empty .ensures _ (shutting c .shut .ensures) in
+    onto (λ n folding. firstEmpty n (begun c .args .frozen) folding ≡ none) (same-n seats) (same-folding seats) (first .absent (omega (arith, first .inside, c .before .before .before .before .before .before .before .before .before .before .before .if1 .left)))
+
+ends : (c : tie.After-walk)
+    → Ends (begun c .args .n) (begun c .args .frozen) (begun c .args .folding) (begun c .args .allowance) (begun c .args .levels .now) (c .walk .result)
+ends c =
+    let seats = shutting c .before .before in
+    let rows = c .before .before .before .before .before .before .before .before .before .rows .ensures in
+    onto (λ n folding. Ends n (begun c .args .frozen) folding (begun c .args .allowance) (begun c .args .levels .now) (c .walk .result)) (same-n seats) (same-folding seats)
+    (c .walk .ensures ∙ walked (grouped seats) (given seats) (seated seats) _ rows _ _ _ (shutting c .shut .ensures))
+
+returns-2 : tie.Need-returns-2
+returns-2 c =
+    let w = c .before .before in
+    let given = begun w .args in
+    answer-eight _ _ _ _ _ (candidates w)
+    (used-up (given .n) (given .frozen) (given .folding) (given .allowance) (given .levels .now) (w .walk .result) (ends w) (sym (c .before .used-up .ensures) ∙ c .if2 .taken))
+
+-- a walk within its allowance
+within : (c : tie.Else2) → ltb (begun (c .before .before) .args .allowance) (c .before .before .walk .result .visits) ≡ false
+within c = sym (c .before .used-up .ensures) ∙ c .if2 .left
+
+cast-distance : tie.Need-cast-distance
+cast-distance c =
+    let w = c .before .before .before in
+    let given = begun w .args in
+    let fits =
+    distance-fits (given .n) (given .frozen) (given .folding) (given .allowance) (given .levels .now) (w .walk .result) (ends w) (within (c .before))
+    in
+    omega (arith, fits)
+
+cast-visits : tie.Need-cast-visits
+cast-visits c =
+    let w = c .before .before .before .before in
+    let given = begun w .args in
+    let fits =
+    visits-fit (given .n) (given .frozen) (given .folding) (given .allowance) (given .levels .now) (w .walk .result) (ends w)
+    (within (c .before .before)) (begun w .fits .allowance .fits)
+    in
+    omega (arith, fits)
+
+gather-requires : tie.Need-gather-requires
+gather-requires c κs = search needs
+
+map-requires : tie.Need-map-requires
+map-requires c κs = search needs
+
+returns-3 : tie.Need-returns-3
+returns-3 c =
+    let w = c .before .before .before .before .before .before in
+    let given = begun w .args in
+    let on = within (c .before .before .before .before) in
+    answer-found _ _ _ _ _ (candidates w)
+    (enough (given .n) (given .frozen) (given .folding) (given .allowance) (given .levels .now) (w .walk .result) (ends w) on) _
+    (found-right (given .n) (given .frozen) (given .folding) (given .allowance) (given .levels .now) (w .walk .result) (ends w) on (begun w .pre .small)
+    _ _ (c .before .gather .ensures) (c .map .ensures))
+
+pub search-spec : {M : Type 1} → statement M
+search-spec =
+    tie.close
+    (tie.spec
+    all-groups-requires
+    seats-requires
+    shut-requires
+    first-empty-requires
+    returns
+    rows-requires
+    changes-requires
+    covered-requires
+    walk-requires
+    used-up-requires
+    returns-2
+    cast-distance
+    cast-visits
+    gather-requires
+    map-requires
+    returns-3)
