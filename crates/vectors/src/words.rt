@@ -50,6 +50,12 @@ fn xor(a: Word, b: Word) {
     came(word::xor(a, b));
 }
 
+fn common(a: Word, b: Word) {
+    printing::hex(b"common a=0x", a);
+    printing::hex(b" b=0x", b);
+    came(word::common(a, b));
+}
+
 fn less(a: Word, b: Word) {
     printing::hex(b"less a=0x", a);
     printing::hex(b" b=0x", b);
@@ -59,13 +65,6 @@ fn less(a: Word, b: Word) {
 fn map(w: Word) {
     printing::hex(b"map w=0x", w);
     came(word::matrix::map(w));
-}
-
-// An entry of the table of all bytes.
-fn bytes(b: u8) {
-    let table = word::matrix::bytes();
-    printing::hex(b"bytes b=0x", b as u64);
-    came(table[b as usize] as u64);
 }
 
 fn spread(n: u32, frozen: Word, message: Word) {
@@ -114,15 +113,9 @@ fn wrong_size(n: u32) {
     said(word::wrong_size(n));
 }
 
-fn block(w: Word, i: usize, size: usize) {
-    at(b"block w=0x", w, i);
-    printing::number(b" size=", size as u64);
-    came(word::block::block(w, i, size) as u64);
-}
-
 fn above(w: Word, i: usize) {
     at(b"above w=0x", w, i);
-    came(word::block::above(w, i));
+    came(word::place::above(w, i));
 }
 
 fn bits() {
@@ -148,6 +141,10 @@ fn sums() {
     xor(0x5, 0x3);
     xor(TOP, 0x1);
     xor(ALL, ALL);
+    common(0x0, ALL);
+    common(0x5, 0x3);
+    common(TOP, 0x7fffffffffffffff);
+    common(ALL, ALL);
     less(0x0, 0x0);
     less(0x0, 0x1);
     less(0x1, 0x0);
@@ -160,6 +157,10 @@ fn maps() {
     map(0x0);
     map(0x1);
     map(0x2);
+    map(0x8);
+    map(0x10);
+    map(0x80);
+    map(0xa5);
     map(0xff);
     map(0x100);
     map(0x10000);
@@ -167,14 +168,6 @@ fn maps() {
     map(TOP);
     map(ALL);
     map(0x123456789abcdef);
-    bytes(0x0);
-    bytes(0x1);
-    bytes(0x2);
-    bytes(0x8);
-    bytes(0x10);
-    bytes(0x80);
-    bytes(0xa5);
-    bytes(0xff);
 }
 
 fn messages() {
@@ -245,15 +238,7 @@ fn sizes() {
     wrong_size(4294967295);
 }
 
-fn blocks() {
-    block(0x123456789abcdef, 0, 8);
-    block(0x123456789abcdef, 4, 4);
-    block(ALL, 63, 8);
-    block(ALL, 64, 8);
-    block(ALL, 0, 0);
-    block(ALL, 0, 1);
-    block(ALL, 0, 9);
-    block(ALL, FAR, FAR);
+fn moves() {
     above(0xff, 0);
     above(0xff, 56);
     above(0xff, 57);
@@ -267,11 +252,13 @@ fn blocks() {
 // The one call that asks something of its caller: the copies must fit.
 fn copies() {
     printing::say(b"copies w=0x0 b=0xff");
-    came(word::block::copies(0x0, 0xff));
+    came(word::place::copies(0x0, 0xff));
     printing::say(b"copies w=0x8001 b=0x5a");
-    came(word::block::copies(0x8001, 0x5a));
+    came(word::place::copies(0x8001, 0x5a));
+    printing::say(b"copies w=0x11 b=0x500000005");
+    came(word::place::copies(0x11, 0x500000005));
     printing::say(b"copies w=0x101010101010101 b=0xff");
-    came(word::block::copies(0x101010101010101, 0xff));
+    came(word::place::copies(0x101010101010101, 0xff));
 }
 
 pub(crate) fn words() {
@@ -281,6 +268,6 @@ pub(crate) fn words() {
     messages();
     counts();
     sizes();
-    blocks();
+    moves();
     copies();
 }
