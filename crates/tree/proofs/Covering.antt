@@ -1,6 +1,6 @@
 -- The loop that lists what each group covers: a group's highest one bit moves what the rest of it covers.
 use Prim.Native.Nat.{ℕ, suc, _+_, _-_, _*_, _%_, _^_, _≤_, _<_}
-use mathlib.Core.Path.{_≡_, refl, sym, ap, ap₂, _∙_}
+use mathlib.Core.Path.{_≡_, refl, sym, ap, _∙_}
 use mathlib.Core.List.{List}
 use native.Mathlib.Nat.{add-comm, two-pow-succ, mod-eq-of-lt, lt-of-lt-of-le}
 use native.Mathlib.Omega.{arith}
