@@ -28,13 +28,12 @@ use Rattle.tree.proofs.Tabling.{size-small, seat-within}
 -- while words are doubled: the first m as they were, and u of them once more with a word added
 pub record Turned (before after : List ℕ) (m column u : ℕ) : Type 0 where
   pub same : length after ≡ length before
-  pub inside : u ≤ m
   pub kept : (v : ℕ) → v < m → getD after v 0 ≡ getD before v 0
   pub added : (v : ℕ) → v < u → getD after (m + v) 0 ≡ bitXor (getD before v 0) column
 
 -- before the first turn
 pub turned-none : (before : List ℕ) (m column : ℕ) → Turned before before m column 0
-turned-none before m column = record { same = refl; inside = omega arith; kept = λ v h. refl; added = λ v h. absurd (omega arith) }
+turned-none before m column = record { same = refl; kept = λ v h. refl; added = λ v h. absurd (omega arith) }
 
 -- one word more
 pub turned-next : {before after : List ℕ} {m column u : ℕ} → Turned before after m column u → m + m ≤ length before → u < m
@@ -42,7 +41,6 @@ pub turned-next : {before after : List ℕ} {m column u : ℕ} → Turned before
 turned-next {before} {after} {m} {column} {u} turned room h x e =
     record {
       same = length-set after (m + u) x ∙ turned .same;
-      inside = omega arith;
       kept = λ v l. getD-set-other after (m + u) v x 0 (λ (e : v ≡ m + u). omega arith) ∙ turned .kept v l;
       added =
           below-more _ u
@@ -53,12 +51,11 @@ turned-next {before} {after} {m} {column} {u} turned room h x e =
 -- the changes of the patterns below 2 ^ t
 pub record Changed (g : Groups) (l : List ℕ) (t : ℕ) : Type 0 where
   pub long : length l ≡ 256
-  pub inside : t ≤ g .size
   pub done : (u : ℕ) → u < 2 ^ t → getD l u 0 ≡ changeOf (g .n) (g .folding) 0 u
 
 -- pattern 0 changes nothing
 pub changed-first : (g : Groups) (l : List ℕ) → length l ≡ 256 → getD l 0 0 ≡ 0 → Changed g l 0
-changed-first g l long first = record { long = long; inside = omega arith; done = λ u h. go u (omega arith) }
+changed-first g l long first = record { long = long; done = λ u h. go u (omega arith) }
   where
     go : (u : ℕ) → u ≡ 0 → getD l u 0 ≡ changeOf (g .n) (g .folding) 0 u
     go u e = rw (e, zero-mul (2 ^ (0 * 2 ^ ones (g .folding))), unseat-zero (g .n) (g .folding), codeword-zero (g .n)) first
@@ -76,7 +73,7 @@ module _ {g : Groups} (given : Grouped g) {l : List ℕ} {t : ℕ} (changed : Ch
   pub changed-next : {after : List ℕ} {column : ℕ} → length after ≡ length l → column ≡ codeword (g .n) (2 ^ seatIndex (g .n) (g .folding) t)
       → Doubled l after (1 * 2 ^ t % 2 ^ 64) column → Changed g after (t + 1)
   changed-next {after = after} {column = column} same is made =
-      record { long = same ∙ changed .long; inside = omega (arith, h); done = λ u l. go u l (decLt u (2 ^ t)) }
+      record { long = same ∙ changed .long; done = λ u l. go u l (decLt u (2 ^ t)) }
     where
       doubled : Doubled l after (2 ^ t) column
       doubled = rw many-is at made
@@ -91,7 +88,8 @@ module _ {g : Groups} (given : Grouped g) {l : List ℕ} {t : ℕ} (changed : Ch
           rw (← d .1) (upper (d .0) (omega (arith, d .1, two-pow-succ t, rw (add-one t) at l)))
 
 -- the codeword of an index of group 0, as the code makes it
-pub column-is : {g : Groups} → Grouped g → {l : List ℕ} → Seated l (g .n) (g .folding) → {t : ℕ} → t < g .size → codeword 6 (1 * 2 ^ getD l t 0 % 2 ^ 64) ≡ codeword (g .n) (2 ^ seatIndex (g .n) (g .folding) t)
+pub column-is : {g : Groups} → Grouped g → {l : List ℕ} → Seated l (g .n) (g .folding) → {t : ℕ} → t < g .size
+    → codeword 6 (1 * 2 ^ getD l t 0 % 2 ^ 64) ≡ codeword (g .n) (2 ^ seatIndex (g .n) (g .folding) t)
 column-is {g = g} given {l = l} seated {t = t} h =
     rw (power-shifted 64 (getD l t 0) (index-fits seated (seat-within given h)), index-at seated t (seat-within given h))
     (codeword-longer (g .n) 6 _ (given .small) (pow-lt (seat-below (g .n) (g .folding) (given .fits) t (seat-within given h))))

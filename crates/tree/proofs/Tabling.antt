@@ -63,7 +63,8 @@ module _ {g : Groups} (given : Grouped g) where
       let w : ℕ = 2 ^ g .size - 1 in
       let d = le-dest {n = g .size} {m = 2 ^ g .n} (rw (given .sized) (pow-mono (ones-le (g .n) (g .folding) (given .fits)))) in
       let past : sumBelow (d .0) (λ i. bit w (g .size + i) * 2 ^ seatIndex (g .n) (g .folding) (g .size + i)) ≡ 0 =
-      sum-zero (d .0) (λ i l. ap (λ (b : ℕ). b * 2 ^ seatIndex (g .n) (g .folding) (g .size + i)) (bit-beyond {i = g .size + i} (ones-lt (g .size)) (omega arith)) ∙ zero-mul _)
+      sum-zero (d .0) (λ i l.
+      ap (λ (b : ℕ). b * 2 ^ seatIndex (g .n) (g .folding) (g .size + i)) (bit-beyond {i = g .size + i} (ones-lt (g .size)) (omega arith)) ∙ zero-mul _)
       in
       sym (ap (unseatBelow (g .n) (g .folding) w) (sym (d .1)) ∙ sum-split (g .size) (d .0) _
       ∙ ap (λ (x : ℕ). unseatBelow (g .n) (g .folding) w (g .size) + x) past ∙ add-zero _)
