@@ -9,7 +9,7 @@ use lib.Count.{ones}
 use Rattle.rules.specs.Below.{sumBelow}
 use Rattle.rules.specs.Word.{bit, covers, codeBit}
 use Rattle.laws.specs.Sums.{sum-cong, sum-zero, sum-single, sum-add}
-use Rattle.laws.specs.Bits.{bit-lt-two, bit-zero, bit-beyond, bit-and, bit-pow-same, bit-pow-other, bit-add, bit-ext-below, word-lt, word-bit, small-of-bits}
+use Rattle.laws.specs.Bits.{bit-lt-two, bit-zero, bit-and, bit-pow-same, bit-pow-other, bit-add, bit-ext-below, word-lt, word-bit, small-of-bits}
 use Rattle.laws.specs.Counts.{ones-sum}
 use Rattle.laws.specs.Placed.{Apart, xor-single, placed-at, placed-other, sum-permuted}
 use Rattle.laws.specs.Seats.{seatIndex, seat-below, seat-covers, seat-inj, seat-onto}
@@ -22,32 +22,20 @@ unseatBelow n F w m = sumBelow m (λ p. bit w p * 2 ^ seatIndex n F p)
 unfoldable pub unseat : ℕ → ℕ → ℕ → ℕ
 unseat n F w = unseatBelow n F w (2 ^ n)
 
--- the bits at the indices of the seats below m, in seat order
-abbrev pub seatBelow : ℕ → ℕ → ℕ → ℕ → ℕ
-seatBelow n F w m = sumBelow m (λ p. bit w (seatIndex n F p) * 2 ^ p)
-
 -- a word in seat order
 unfoldable pub seat : ℕ → ℕ → ℕ → ℕ
-seat n F w = seatBelow n F w (2 ^ n)
+seat n F w = sumBelow (2 ^ n) (λ p. bit w (seatIndex n F p) * 2 ^ p)
 
 module _ (n F : ℕ) where
-  seat-below-lt : (w m : ℕ) → seatBelow n F w m < 2 ^ m
-  seat-below-lt w m = word-lt m (λ p. bit w (seatIndex n F p)) (λ p _. bit-lt-two w (seatIndex n F p))
-
   -- a word in seat order has 2 ^ n bits
   pub seat-lt : (w : ℕ) → seat n F w < 2 ^ (2 ^ n)
   unfolding seat
-  seat-lt w = seat-below-lt w (2 ^ n)
+  seat-lt w = word-lt (2 ^ n) (λ p. bit w (seatIndex n F p)) (λ p _. bit-lt-two w (seatIndex n F p))
 
   -- its bits are those at the seats' indices
   pub seat-bit : (w p : ℕ) → p < 2 ^ n → bit (seat n F w) p ≡ bit w (seatIndex n F p)
   unfolding seat
   seat-bit w = word-bit (2 ^ n) (λ p. bit w (seatIndex n F p)) (λ p _. bit-lt-two w (seatIndex n F p))
-
-  -- the next bit in seat order, put by `xor`
-  pub seat-step : (w m : ℕ) → bitXor (seatBelow n F w m) (bit w (seatIndex n F m) * 2 ^ m) ≡ seatBelow n F w (suc m)
-  unfolding sumBelow
-  seat-step w m = xor-single (seatBelow n F w m) m _ (bit-beyond (seat-below-lt w m) (le-refl m)) (bit-lt-two w (seatIndex n F m))
 
   -- words with no common one are put in place apart
   pub unseat-add : (v w : ℕ) → ((k : ℕ) → bit v k + bit w k ≤ 1) → unseat n F (v + w) ≡ unseat n F v + unseat n F w

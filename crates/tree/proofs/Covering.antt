@@ -1,6 +1,6 @@
 -- The loop that lists what each group covers: a group's highest one bit moves what the rest of it covers.
 use Prim.Native.Nat.{ℕ, suc, _+_, _-_, _*_, _%_, _^_, _≤_, _<_}
-use mathlib.Core.Path.{_≡_, refl, sym, ap, ap₂, _∙_}
+use mathlib.Core.Path.{_≡_, refl, sym, ap, _∙_}
 use mathlib.Core.List.{List}
 use native.Mathlib.Nat.{add-comm, two-pow-succ, mod-eq-of-lt, lt-of-lt-of-le}
 use native.Mathlib.Omega.{arith}
@@ -84,7 +84,8 @@ module _ {g : Groups} (given : Grouped g) where
         → bitXor rest (rest * 2 ^ getD l (highest * g .size) 0 % 2 ^ 64) ≡ spreadOf (g .n) (g .folding) k
     moved-xor {l} seated rest e =
         let at : getD l (highest * g .size) 0 ≡ place =
-        index-at seated (highest * g .size) (first-seat given (omega (arith, is .above))) ∙ ap (λ (s : ℕ). seatIndex (g .n) (g .folding) (highest * s)) (given .sized)
+        index-at seated (highest * g .size) (first-seat given (omega (arith, is .above)))
+        ∙ ap (λ (s : ℕ). seatIndex (g .n) (g .folding) (highest * s)) (given .sized)
         in
         let all : rest + rest * 2 ^ place ≡ spreadOf (g .n) (g .folding) k = ap (λ (x : ℕ). x + x * 2 ^ place) e ∙ sym (moved .1) in
         let small : spreadOf (g .n) (g .folding) k < 2 ^ 64 =
@@ -95,7 +96,8 @@ module _ {g : Groups} (given : Grouped g) where
         ∙ xor-shifted rest place rest (rw e (moved .0)) ∙ add-comm (rest * 2 ^ place) rest ∙ all
 
     -- one group more
-    pub covering-next : (r : List ℕ) (v : ℕ) → length r ≡ 64 → Done g r k → v ≡ spreadOf (g .n) (g .folding) k → Covering g (set r k v) highest (k + 1)
+    pub covering-next : (r : List ℕ) (v : ℕ) → length r ≡ 64 → Done g r k → v ≡ spreadOf (g .n) (g .folding) k
+        → Covering g (set r k v) highest (k + 1)
     covering-next r v long done e =
         record {
           long = length-set r k v ∙ long;

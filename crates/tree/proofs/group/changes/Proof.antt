@@ -6,7 +6,8 @@ use native.Mathlib.Omega.{arith}
 use lib.Pow.{pow-mono}
 use borrow.Author.Needs.{needs}
 use Rattle.rules.specs.Word.{codeword}
-use Rattle.tree.proofs.Tabling.{Changed, size-small, column-is, room-for-more, changed-first, changed-next}
+use Rattle.tree.proofs.Tabling.{size-small}
+use Rattle.tree.proofs.Changing.{Changed, changed-first, room-for-more, changed-next, column-is}
 use Rattle.tree.proofs.group.changes.Statement.{statement}
 use Rattle.tree.proofs.group.changes.Tie as tie
 
@@ -38,7 +39,9 @@ shl-double-words : tie.Need-shl-double-words Inv-loop μ-loop
 shl-double-words c = omega (arith, size-small (c .before .before .before .before .before .before .before .pre .0), c .before .before .before .before .if1 .taken)
 
 double-words-requires : tie.Need-double-words-requires Inv-loop μ-loop
-double-words-requires c κs = room-for-more (c .before .before .before .before .before .before .before .pre .0) (c .before .before .before .before .before .before .loop .inv) (c .before .before .before .before .if1 .taken)
+double-words-requires c κs =
+    let test = c .before .before .before .before in
+    room-for-more (test .before .before .before .pre .0) (test .before .before .loop .inv) (test .if1 .taken)
 
 add-t : tie.Need-add-t Inv-loop μ-loop
 add-t c = omega (arith, size-small (c .before .before .before .before .before .before .before .before .before .pre .0), c .before .before .before .before .before .before .if1 .taken)
@@ -48,10 +51,11 @@ loop-less c = omega (arith, c .before .before .before .before .before .before .i
 
 loop-again : tie.Need-loop-again Inv-loop μ-loop
 loop-again c =
-    let given = c .before .before .before .before .before .before .before .before .before .pre in
-    let inside = c .before .before .before .before .before .before .if1 .taken in
-    changed-next (given .0) (c .before .before .before .before .before .before .before .before .loop .inv) inside (c .before .double-words .kept .0)
-    (c .before .before .before .map .ensures ∙ ap (codeword 6) (c .before .before .before .before .above .ensures) ∙ column-is (given .0) (given .1) inside)
+    let column = c .before .before .before in
+    let test = column .before .before .before in
+    let given = test .before .before .before .pre in
+    changed-next (given .0) (test .before .before .loop .inv) (test .if1 .taken) (c .before .double-words .kept .0)
+    (column .map .ensures ∙ ap (codeword 6) (column .before .above .ensures) ∙ column-is (given .0) (given .1) (test .if1 .taken))
     (c .before .double-words .ensures)
 
 returns : tie.Need-returns Inv-loop μ-loop

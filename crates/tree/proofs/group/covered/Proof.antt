@@ -7,6 +7,7 @@ use lib.Bits.{bitXor}
 use lib.ListN.{getD}
 use borrow.Author.Needs.{needs}
 use Rattle.laws.specs.Copied.{spreadOf}
+use Rattle.tree.specs.declared.group.Groups.{Groups}
 use Rattle.tree.proofs.SeatLoops.{seats-fit}
 use Rattle.tree.proofs.Tabling.{few-groups, first-seat}
 use Rattle.tree.proofs.Covering.{Covering, Highest, covering-first, highest-itself, highest-still, some-power, moved-xor, covering-next}
@@ -34,28 +35,38 @@ highest-at c =
     let inv = c .before .before .before .before .loop .inv in
     ⊎-elim (λ w. rw (w .1) (highest-itself inv (w .0 .taken))) (λ w. rw (w .1) (highest-still inv (w .0 .left))) (c .before .if2 .came)
 
--- what the rest of the group covers is done
-abbrev rest : tie.After-row-known Inv-loop μ-loop → ℕ
-rest c = getD (c .before .before .before .before .loop .r) (c .before .before .before .before .loop .k - c .before .if2 .highest) 0
+-- the groups, the rest of k without its highest one bit, and what that rest covers
+abbrev of : tie.After-row-known Inv-loop μ-loop → Groups
+of c = c .before .before .before .before .before .args .groups
 
-rest-at : (c : tie.After-row-known Inv-loop μ-loop)
-    → rest c ≡ spreadOf (c .before .before .before .before .before .args .groups .n) (c .before .before .before .before .before .args .groups .folding) (c .before .before .before .before .loop .k - c .before .if2 .highest)
-rest-at c = c .before .before .before .before .loop .inv .done _ (omega (arith, highest-at c .above, some-power (highest-at c .power)))
+abbrev rest : tie.After-row-known Inv-loop μ-loop → ℕ
+rest c = c .before .before .before .before .loop .k - c .before .if2 .highest
+
+abbrev covers : tie.After-row-known Inv-loop μ-loop → ℕ
+covers c = getD (c .before .before .before .before .loop .r) (rest c) 0
+
+covers-is : (c : tie.After-row-known Inv-loop μ-loop) → covers c ≡ spreadOf (of c .n) (of c .folding) (rest c)
+covers-is c = c .before .before .before .before .loop .inv .done _ (omega (arith, highest-at c .above, some-power (highest-at c .power)))
+
+-- a group's number is an index of the table
+small : (c : tie.After-row-known Inv-loop μ-loop) → c .before .before .before .before .loop .k < 64
+small c = omega (arith, few-groups (c .before .before .before .before .before .pre .0), c .before .before .if1 .taken)
 
 -- the seat of the highest one bit
-seat-at : (c : tie.After-row-known Inv-loop μ-loop) → c .before .if2 .highest * c .before .before .before .before .before .args .groups .size < 64
+seat-at : (c : tie.After-row-known Inv-loop μ-loop) → c .before .if2 .highest * of c .size < 64
 seat-at c =
     let given = c .before .before .before .before .before .pre in
-    omega (arith, first-seat (given .0) {k = c .before .if2 .highest} (omega (arith, highest-at c .above, c .before .before .if1 .taken)), seats-fit (given .1))
+    let inside : c .before .if2 .highest < of c .count = omega (arith, highest-at c .above, c .before .before .if1 .taken) in
+    omega (arith, first-seat (given .0) inside, seats-fit (given .1))
 
 sub-rest : tie.Need-sub-rest Inv-loop μ-loop
 sub-rest c = highest-at c .above
 
 mul-rest : tie.Need-mul-rest Inv-loop μ-loop
-mul-rest c = omega (arith, few-groups (c .before .before .before .before .before .pre .0), c .before .before .if1 .taken)
+mul-rest c = omega (arith, small c)
 
 array-read-rest : tie.Need-array-read-rest Inv-loop μ-loop
-array-read-rest c = omega (arith, few-groups (c .before .before .before .before .before .pre .0), c .before .before .if1 .taken)
+array-read-rest c = omega (arith, small c)
 
 mul-first : tie.Need-mul-first Inv-loop μ-loop
 mul-first c = omega (arith, seat-at (c .before))
@@ -73,13 +84,13 @@ xor-requires : tie.Need-xor-requires Inv-loop μ-loop
 xor-requires c κs = search needs
 
 mul-r : tie.Need-mul-r Inv-loop μ-loop
-mul-r c = omega (arith, few-groups (c .before .before .before .before .before .before .before .before .before .pre .0), c .before .before .before .before .before .before .if1 .taken)
+mul-r c = omega (arith, small (c .before .before .before .before))
 
 array-write-r-2 : tie.Need-array-write-r-2 Inv-loop μ-loop
-array-write-r-2 c = omega (arith, few-groups (c .before .before .before .before .before .before .before .before .before .pre .0), c .before .before .before .before .before .before .if1 .taken)
+array-write-r-2 c = small (c .before .before .before .before)
 
 add-k : tie.Need-add-k Inv-loop μ-loop
-add-k c = omega (arith, few-groups (c .before .before .before .before .before .before .before .before .before .pre .0), c .before .before .before .before .before .before .if1 .taken)
+add-k c = omega (arith, small (c .before .before .before .before))
 
 loop-less : tie.Need-loop-less Inv-loop μ-loop
 loop-less c = omega (arith, c .before .before .before .before .before .before .if1 .taken)
@@ -91,7 +102,7 @@ loop-again c =
     let inside = known .before .before .if1 .taken in
     let inv = known .before .before .before .before .loop .inv in
     covering-next (given .0) (highest-at known) inside (known .before .before .before .before .loop .r) _ (inv .long) (inv .done)
-    (c .xor .ensures ∙ ap (bitXor (rest known)) (c .before .above .ensures) ∙ moved-xor (given .0) (highest-at known) inside (given .1) _ (rest-at known))
+    (c .xor .ensures ∙ ap (bitXor (covers known)) (c .before .above .ensures) ∙ moved-xor (given .0) (highest-at known) inside (given .1) _ (covers-is known))
 
 returns : tie.Need-returns Inv-loop μ-loop
 returns c k h = c .before .before .loop .inv .done k (omega (arith, c .if1 .left))

@@ -2,7 +2,7 @@
 use Prim.Native.Nat.{_-_}
 use native.Mathlib.Omega.{arith}
 use borrow.Author.Needs.{needs}
-use Rattle.tree.proofs.Tabling.{Turned, turned-none, turned-next}
+use Rattle.tree.proofs.Changing.{Turned, turned-none, turned-next}
 use Rattle.tree.proofs.group.double_words.Statement.{statement}
 use Rattle.tree.proofs.group.double_words.Tie as tie
 

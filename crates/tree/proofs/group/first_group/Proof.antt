@@ -40,10 +40,10 @@ loop-less c = omega arith
 
 loop-again : tie.Need-loop-again Inv-loop μ-loop
 loop-again c =
-    let given = c .before .before .before .before .before .before .pre in
-    let inside = c .before .before .before .if1 .taken in (
+    let test = c .before .before .before in
+    let given = test .before .before .before .pre in (
       omega arith,
-      c .xor .ensures ∙ ap₂ bitXor (c .before .before .before .before .before .loop .inv .1) (c .before .above .ensures) ∙ group-next (given .0) (given .1) inside,
+      c .xor .ensures ∙ ap₂ bitXor (test .before .before .loop .inv .1) (c .before .above .ensures) ∙ group-next (given .0) (given .1) (test .if1 .taken),
     )
 
 returns : tie.Need-returns Inv-loop μ-loop

@@ -25,11 +25,13 @@ first-group-requires c κs = c .pre
 loop-holds : tie.Need-loop-holds Inv-loop μ-loop
 loop-holds c = (refl, λ j h. absurd (omega arith))
 
+-- a group's number is an index of the table
+small : (c : tie.After-struct-known2 Inv-loop μ-loop) → c .before .before .before .loop .k < 64
+small c = omega (arith, few-groups (c .before .before .before .before .before .pre .0), c .before .if1 .taken)
+
 -- the first seat of a group
 seat-at : (c : tie.After-struct-known2 Inv-loop μ-loop) → c .before .before .before .loop .k * c .before .before .before .before .before .args .groups .size < 64
-seat-at c =
-    let given = c .before .before .before .before .before .pre in
-    omega (arith, first-seat (given .0) {k = c .before .before .before .loop .k} (c .before .if1 .taken), seats-fit (given .1))
+seat-at c = let given = c .before .before .before .before .before .pre in omega (arith, first-seat (given .0) (c .before .if1 .taken), seats-fit (given .1))
 
 mul-first : tie.Need-mul-first Inv-loop μ-loop
 mul-first c = omega (arith, seat-at c)
@@ -47,26 +49,28 @@ common-requires : tie.Need-common-requires Inv-loop μ-loop
 common-requires c κs = search needs
 
 mul-r : tie.Need-mul-r Inv-loop μ-loop
-mul-r c = omega (arith, few-groups (c .before .before .before .before .before .before .before .before .pre .0), c .before .before .before .before .if1 .taken)
+mul-r c = omega (arith, small (c .before .before .before))
 
 array-write-r : tie.Need-array-write-r Inv-loop μ-loop
-array-write-r c = omega (arith, few-groups (c .before .before .before .before .before .before .before .before .pre .0), c .before .before .before .before .if1 .taken)
+array-write-r c = small (c .before .before .before)
 
 add-k : tie.Need-add-k Inv-loop μ-loop
-add-k c = omega (arith, few-groups (c .before .before .before .before .before .before .before .before .pre .0), c .before .before .before .before .if1 .taken)
+add-k c = omega (arith, small (c .before .before .before))
 
 loop-less : tie.Need-loop-less Inv-loop μ-loop
 loop-less c = omega (arith, c .before .before .before .before .if1 .taken)
 
 loop-again : tie.Need-loop-again Inv-loop μ-loop
 loop-again c =
-    let given = c .before .before .before .before .before .before .before .before .pre in
-    let frozen = c .before .before .before .before .before .before .before .before .args .frozen in
-    let inv = c .before .before .before .before .before .before .loop .inv in
-    let inside = c .before .before .before .before .if1 .taken in (
-      length-set (c .before .before .before .before .before .before .loop .r) _ _ ∙ inv .0,
-      each-stored (shutOf _ _ frozen) 0 (c .before .before .before .before .before .before .loop .r) _ _ (omega (arith, inv .0, few-groups (given .0), inside))
-          (c .common .ensures ∙ ap (bitAnd frozen) (c .before .above .ensures) ∙ shut-here (given .0) (given .1) frozen _ (c .before .before .before .before .before .before .before .first-group .ensures) inside)
+    let known = c .before .before .before in
+    let given = known .before .before .before .before .before .pre in
+    let frozen = known .before .before .before .before .before .args .frozen in
+    let r = known .before .before .before .loop .r in
+    let inv = known .before .before .before .loop .inv in
+    let own = known .before .before .before .before .first-group .ensures in (
+      length-set r _ _ ∙ inv .0,
+      each-stored (shutOf _ _ frozen) 0 r _ _ (omega (arith, inv .0, small known))
+          (c .common .ensures ∙ ap (bitAnd frozen) (c .before .above .ensures) ∙ shut-here (given .0) (given .1) frozen _ own (known .before .if1 .taken))
           (inv .1),
     )
 
