@@ -1,12 +1,12 @@
 -- Sums modulo 2 and the matrix map go alike in seat order and in index order.
 use Prim.Native.Nat.{ℕ, _+_, _%_, _^_, _<_}
-use mathlib.Core.Path.{_≡_, sym, ap, ap₂, _∙_}
+use mathlib.Core.Path.{_≡_, sym, ap₂, _∙_}
 use lib.Bits.{bitXor, xor-lt}
 use Rattle.rules.specs.Word.{codeword}
 use Rattle.laws.specs.Bits.{bit-xor, bit-ext-below}
 use Rattle.laws.specs.Matrix.{codeword-lt, codeword-bit}
 use Rattle.laws.specs.Seats.{seatIndex}
-use Rattle.laws.specs.SeatWords.{seat, unseat, seat-lt, seat-bit, unseat-lt, unseat-bit, seat-unseat, unseat-seat, by-seats, unseat-code-bit}
+use Rattle.laws.specs.SeatWords.{seat, unseat, seat-lt, seat-bit, unseat-lt, unseat-bit, by-seats, unseat-code-bit}
 
 module _ (n F : ℕ) (fits : F < 2 ^ n) where
   -- sums, into seat order and out of it
@@ -20,13 +20,8 @@ module _ (n F : ℕ) (fits : F < 2 ^ n) where
       unseat-bit n F fits (bitXor v w) p l ∙ bit-xor v w p
       ∙ sym (bit-xor (unseat n F v) (unseat n F w) (seatIndex n F p) ∙ ap₂ (λ (x y : ℕ). (x + y) % 2) (unseat-bit n F fits v p l) (unseat-bit n F fits w p l)))
 
-  -- the matrix map, into seat order and out of it
+  -- the matrix map, out of seat order
   pub unseat-code : (w : ℕ) → unseat n F (codeword n w) ≡ codeword n (unseat n F w)
   unseat-code w = by-seats n F fits _ _ (unseat-lt n F fits _) (codeword-lt n _) (λ p l.
       unseat-bit n F fits (codeword n w) p l ∙ codeword-bit n w p
       ∙ sym (codeword-bit n (unseat n F w) (seatIndex n F p) ∙ unseat-code-bit n F fits w p l))
-
-  pub seat-code : (w : ℕ) → w < 2 ^ (2 ^ n) → seat n F (codeword n w) ≡ codeword n (seat n F w)
-  seat-code w l =
-      ap (λ (d : ℕ). seat n F (codeword n d)) (sym (unseat-seat n F fits w l)) ∙ ap (seat n F) (sym (unseat-code (seat n F w)))
-      ∙ seat-unseat n F fits _ (codeword-lt n (seat n F w))

@@ -9,7 +9,7 @@ use native.Mathlib.Omega.{arith}
 use lib.Count.{ones, ones-le}
 use lib.Dec.{eqb}
 use lib.ListN.{length, getD}
-use lib.Pow.{pow-pos, pow-mono}
+use lib.Pow.{pow-pos}
 use borrow.Author.Tests.{eq-eqb, ne-eqb}
 use Rattle.rules.specs.Folding as rules
 use Rattle.rules.specs.Walk.{fillings}
@@ -17,7 +17,6 @@ use Rattle.rules.specs.Refusals.{isEmpty}
 use Rattle.laws.specs.Sums.{none-of, some-of}
 use Rattle.laws.specs.FillingNumber.{group-fillings}
 use Rattle.laws.specs.SeatedRow.{blockOf}
-use Rattle.laws.specs.SeatedDown.{groups-blocks}
 use Rattle.laws.specs.SeatWords.{seat}
 use Rattle.laws.specs.Copied.{shut-ones}
 use Rattle.tree.specs.declared.group.Groups.{Groups}
@@ -40,14 +39,6 @@ pub record Passed (l : List ℕ) (g : Groups) (level : ℕ) : Type 0 where
   pub full : (mask : ℕ) → Shut l g mask → (t : ℕ) → t < level → isEmptyLevel (g .n) mask (g .folding) t ≡ false
 
 module _ {g : Groups} (given : Grouped g) where
-  -- a group has 8 indices at most
-  pub size-small : g .size ≤ 8
-  size-small = rw (given .sized) (pow-mono {j = 3} (given .few))
-
-  -- and there are 64 groups at most
-  pub count-small : g .count ≤ 64
-  count-small = rw (given .all, groups-blocks (g .n) (g .folding) (given .fits)) (pow-mono {j = 6} (omega (arith, given .small)))
-
   -- a group's frozen indices are as many as in seat order
   seated-ones : (l : List ℕ) (mask : ℕ) → Shut l g mask → (k : ℕ) → k < g .count
       → ones (getD l k 0) ≡ ones (blockOf (2 ^ ones (g .folding)) k (seat (g .n) (g .folding) mask))

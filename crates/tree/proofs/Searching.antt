@@ -1,6 +1,6 @@
 -- From what the steps of a search make to what its walk asks and finds.
-use Prim.Native.Nat.{ℕ, _+_, _*_, _/_, _%_, _^_, _≤_, _<_}
-use mathlib.Core.Path.{_≡_, sym, ap, ap₂, _∙_}
+use Prim.Native.Nat.{ℕ, _+_, _*_, _%_, _^_, _≤_, _<_}
+use mathlib.Core.Path.{_≡_, sym, ap, _∙_}
 use mathlib.Core.Bool.{cond}
 use mathlib.Core.Option.{none, some}
 use mathlib.Core.List.{List, List·Memᴰ}
@@ -9,7 +9,7 @@ use native.Mathlib.Omega.{arith}
 use lib.Count.{ones}
 use lib.Dec.{ltb}
 use lib.IntN.{ℤ}
-use lib.ListN.{length, getD}
+use lib.ListN.{getD}
 use lib.Pow.{pow-mono}
 use lib.Seq.{ext-getD}
 use Rattle.rules.specs.Word.{codeword}
@@ -18,7 +18,6 @@ use Rattle.rules.specs.Folding.{groups}
 use Rattle.rules.specs.Walk.{keepBest, walkVisits}
 use Rattle.laws.specs.Each.{each-length, each-at}
 use Rattle.laws.specs.GreatestDistance.{slot-greatest}
-use Rattle.laws.specs.GroupSizes.{groups-all}
 use Rattle.laws.specs.Seats.{seatIndex, seat-below}
 use Rattle.laws.specs.SeatWords.{seat}
 use Rattle.laws.specs.SeatedRow.{blockOf, entryCandidates}
@@ -36,31 +35,25 @@ use Rattle.tree.specs.States.{empty}
 use Rattle.tree.specs.Search.{Searchable}
 use Rattle.tree.specs.declared.group.Groups.{Groups}
 use Rattle.tree.proofs.SeatLoops.{index-at}
+use Rattle.tree.proofs.Tabling.{size-small, all-indices}
 
 module _ {levels : List ℤ} {g : Groups} (grouped : Grouped g) (given : Searchable (g .n) levels (g .folding)) {index : List ℕ}
     (seated : Seated index (g .n) (g .folding)) where
-  -- the groups hold every slot
-  pub all-slots : g .count * g .size ≡ 2 ^ (g .n)
-  all-slots = ap₂ (λ (a b : ℕ). a * b) (grouped .all) (grouped .sized) ∙ groups-all (g .n) (g .folding) (given .fits)
-
   -- every seat has a level in range
   pub levelled : Levelled levels index 0 (g .count * g .size)
   levelled =
       record {
-        within = omega (arith, all-slots, pow-mono {j = 6} (given .small));
+        within = omega (arith, all-indices grouped, pow-mono {j = 6} (given .small));
         held =
-            λ t h. rw (zero-add t, index-at seated t (rw all-slots at h), given .long) (seat-below (g .n) (g .folding) (given .fits) t (rw all-slots at h));
+            λ t h. rw (zero-add t, index-at seated t (rw (all-indices grouped) at h), given .long) (seat-below (g .n) (g .folding) (given .fits) t (rw (all-indices grouped) at h));
         ranged =
-            λ t h. rw (zero-add t, index-at seated t (rw all-slots at h)) (given .ranged _ (seat-below (g .n) (g .folding) (given .fits) t (rw all-slots at h)));
+            λ t h. rw (zero-add t, index-at seated t (rw (all-indices grouped) at h)) (given .ranged _ (seat-below (g .n) (g .folding) (given .fits) t (rw (all-indices grouped) at h)));
       }
 
   module _ (table : List (List ℕ)) (right : RowsRight levels index (g .count) (g .size) table) where
-    size-le : g .size ≤ 8
-    size-le = rw (grouped .sized) (pow-mono (given .few))
-
     -- a seat of group k is a seat
     inside : (k t : ℕ) → k < g .count → t < g .size → k * g .size + t < 2 ^ (g .n)
-    inside k t hk ht = omega (arith, all-slots, mul-le-mul-right (g .size) hk, suc-mul k (g .size))
+    inside k t hk ht = omega (arith, all-indices grouped, mul-le-mul-right (g .size) hk, suc-mul k (g .size))
 
     -- an entry is one of its row's
     entry-in : (k j : ℕ) → k < g .count → j < 2 ^ (g .size) → List·Memᴰ (entryAt table (g .size) k j) (rowOf (seatCost levels index (k * g .size)) (g .size))
@@ -79,7 +72,7 @@ module _ {levels : List ℤ} {g : Groups} (grouped : Grouped g) (given : Searcha
     tables-right change covered shut mask changes copied frozen =
         record {
           grouped = grouped;
-          near = λ k j hk hj. omega (arith, row-bound (seatCost levels index (k * g .size)) (g .size) most size-le (cheap k hk) _ (entry-in k j hk hj));
+          near = λ k j hk hj. omega (arith, row-bound (seatCost levels index (k * g .size)) (g .size) most (size-small grouped) (cheap k hk) _ (entry-in k j hk hj));
           narrow = narrow;
           changes = changes;
           copied = copied;
@@ -89,7 +82,7 @@ module _ {levels : List ℤ} {g : Groups} (grouped : Grouped g) (given : Searcha
         narrow : (k j : ℕ) → k < g .count → j < 2 ^ (g .size) → entryAt table (g .size) k j % 256 < 2 ^ (g .size)
         narrow k j hk hj =
             let r = row-at (seatCost levels index (k * g .size)) (g .size) _ (entry-in k j hk hj) in
-            rw (r .2, entry-parts (seatCost levels index (k * g .size)) (g .size) (r .0) size-le (r .1) .1) (r .1)
+            rw (r .2, entry-parts (seatCost levels index (k * g .size)) (g .size) (r .0) (size-small grouped) (r .1) .1) (r .1)
 
     -- the table's rows are the sorted rows of the levels' costs
     rows-sorted : (k : ℕ) → k < groups (g .n) (g .folding)

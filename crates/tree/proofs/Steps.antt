@@ -2,17 +2,16 @@
 use Prim.Native.Nat.{ℕ, suc, _+_, _*_, _/_, _%_, _^_, _≤_, _<_}
 use mathlib.Core.Path.{_≡_, refl, sym, ap, ap₂, _∙_}
 use mathlib.Core.List.{List}
-use native.Mathlib.Nat.{suc-mul, mul-one, mul-comm, mul-le-mul-left, mul-le-mul-right, lt-of-lt-of-le}
+use native.Mathlib.Nat.{suc-mul, mul-comm, mul-le-mul-right, lt-of-lt-of-le}
 use native.Mathlib.Omega.{arith}
 use lib.Bits.{bitAnd, bitXor}
 use lib.Count.{ones}
 use lib.Dec.{eqb}
 use lib.ListN.{getD}
-use lib.Pow.{pow-mono, pow-pos}
+use lib.Pow.{pow-mono}
 use Rattle.rules.specs.Word.{codeword}
 use Rattle.rules.specs.Folding as rules
 use Rattle.laws.specs.Matrix.{codeword-lt}
-use Rattle.laws.specs.GroupSizes.{groups-all}
 use Rattle.laws.specs.SeatWords.{seat}
 use Rattle.laws.specs.SeatedRow.{blockOf, fillingOf, isOpen, entryCandidate}
 use Rattle.laws.specs.Decided.{decided, changeOf, shut-block, Filled, filled}
@@ -24,7 +23,8 @@ use Rattle.tree.specs.Nodes.{Given, rowCandidates, most}
 use Rattle.tree.specs.declared.group.Groups.{Groups}
 use Rattle.tree.specs.declared.state.Walked.{Walked}
 use Rattle.tree.proofs.Rows.{rest}
-use Rattle.tree.proofs.Building.{by-size, size-small}
+use Rattle.tree.proofs.Building.{by-size}
+use Rattle.tree.proofs.Tabling.{size-small, all-indices, few-groups as at-most}
 
 -- the row of a group among 64 slots is in the table
 in-table : {size : ℕ} (k : ℕ) → GroupSize size → suc k * size ≤ 64 → k * 2 ^ size < 2048
@@ -42,7 +42,7 @@ module _ {rows : List (List ℕ)} {change covered shut : List ℕ} {g : Groups} 
   shape = (ones (g .folding), grouped .few, sized)
 
   pub narrow : g .size ≤ 8
-  narrow = size-small shape
+  narrow = size-small grouped
 
   -- the group is one of the folding's
   group-is : k < rules.groups (g .n) (g .folding)
@@ -53,15 +53,13 @@ module _ {rows : List (List ℕ)} {change covered shut : List ℕ} {g : Groups} 
   seats-fit =
       omega (
         arith,
-        mul-le-mul-right {m = suc k} {n = rules.groups (g .n) (g .folding)} (g .size) group-is,
-        ap (λ (z : ℕ). rules.groups (g .n) (g .folding) * z) sized ∙ groups-all (g .n) (g .folding) (grouped .fits),
+        mul-le-mul-right {m = suc k} {n = g .count} (g .size) (given .begun .within),
+        all-indices grouped,
         pow-mono {j = 6} (grouped .small),
       )
 
   pub few-groups : k < 64
-  few-groups =
-      let one : 0 < g .size = rw sized (pow-pos (ones (g .folding))) in
-      omega (arith, seats-fit, mul-le-mul-left (suc k) one, mul-one (suc k))
+  few-groups = omega (arith, given .begun .within, at-most grouped)
 
   -- every entry of the group's row is in the table
   pub inside : (j : ℕ) → j < 2 ^ (g .size) → Inside (g .size) k j

@@ -1,5 +1,5 @@
 -- The groups of a folding as the code holds them, and what its tables hold for each group or pattern.
-use Prim.Native.Nat.{ℕ, _+_, _*_, _^_, _≤_, _<_}
+use Prim.Native.Nat.{ℕ, _+_, _^_, _≤_, _<_}
 use mathlib.Core.Path.{_≡_}
 use mathlib.Core.List.{List}
 use lib.Bits.{bitXor}

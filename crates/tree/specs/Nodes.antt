@@ -1,6 +1,5 @@
 -- What a node of the code's walk is given, and the candidates that the table of rows holds for it.
 use Prim.Native.Nat.{ℕ, _+_, _*_, _/_, _%_, _^_, _≤_, _<_}
-use mathlib.Core.Path.{_≡_}
 use mathlib.Core.List.{List}
 use lib.ListN.{getD}
 use Rattle.rules.specs.Word.{codeword}

@@ -85,7 +85,18 @@ fn node(
             if farther(s, total) {
                 return s;
             }
-            s = node(rows, change, covered, shut, groups, allowance, k, total, next, s);
+            s = node(
+                rows,
+                change,
+                covered,
+                shut,
+                groups,
+                allowance,
+                k,
+                total,
+                next,
+                s,
+            );
             if used_up(s, allowance) {
                 return s;
             }
@@ -107,5 +118,16 @@ pub(crate) fn walk(
     requires { ⌜ Tabled (now rows) (now change) (now covered) (now shut) groups × (allowance < 2 ^ 32) ⌝ }
     ensures { λ r. ⌜ stateOf allowance r ≡ walkIn keepBest allowance (rowCandidates (now (rows .entry)) (now (shut .entry)) groups) (groups .count) 0 0 (some empty) ⌝ }
 {
-    node(rows, change, covered, shut, groups, allowance, groups.count, 0, 0, start())
+    node(
+        rows,
+        change,
+        covered,
+        shut,
+        groups,
+        allowance,
+        groups.count,
+        0,
+        0,
+        start(),
+    )
 }

@@ -1,5 +1,5 @@
 -- `tree::search` meets its contract: the steps make what the walk asks, and the walk's end decides the answer.
-use Prim.Native.Nat.{ℕ, _^_}
+use Prim.Native.Nat.{ℕ}
 use mathlib.Core.Path.{_≡_, sym, _∙_}
 use mathlib.Core.Bool.{false}
 use mathlib.Core.Option.{none, some}

@@ -2,7 +2,8 @@
 use Prim.Native.Nat.{_-_}
 use mathlib.Core.Path.{_≡_}
 use native.Mathlib.Omega.{arith}
-use Rattle.tree.proofs.Emptiness.{Passed, size-small, count-small, passed-none, passed-next, found-empty, found-none}
+use Rattle.tree.proofs.Tabling.{size-small, few-groups}
+use Rattle.tree.proofs.Emptiness.{Passed, passed-none, passed-next, found-empty, found-none}
 use Rattle.tree.proofs.empty.first_empty.Statement.{statement}
 use Rattle.tree.proofs.empty.first_empty.Tie as tie
 
@@ -22,10 +23,10 @@ sub-group-2 : tie.Need-sub-group-2 Inv-loop μ-loop
 sub-group-2 c = omega arith
 
 mul-fillings : tie.Need-mul-fillings Inv-loop μ-loop
-mul-fillings c = record { fits = omega (arith, count-small (c .before .before .before .before .pre .0)) }
+mul-fillings c = record { fits = omega (arith, few-groups (c .before .before .before .before .pre .0)) }
 
 element-copy-out-fillings : tie.Need-element-copy-out-fillings Inv-loop μ-loop
-element-copy-out-fillings c = omega (arith, count-small (c .before .before .before .before .pre .0))
+element-copy-out-fillings c = omega (arith, few-groups (c .before .before .before .before .pre .0))
 
 fillings-requires : tie.Need-fillings-requires Inv-loop μ-loop
 fillings-requires c κs =

@@ -1,5 +1,5 @@
 -- `tree::walk::node` meets its contract. The measure is the number of levels left; the loop's invariant is `Trying`.
-use Prim.Native.Nat.{ℕ, _+_, _-_, _<_}
+use Prim.Native.Nat.{ℕ, _-_, _<_}
 use mathlib.Core.Path.{refl, sym, _∙_}
 use mathlib.Core.Logic.{⊎-elim}
 use native.Mathlib.Omega.{arith}

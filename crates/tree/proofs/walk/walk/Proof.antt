@@ -1,16 +1,16 @@
 -- `tree::walk::walk` meets its contract: the word 0 has every group still to be decided.
 use Prim.Native.Nat.{ℕ, _*_, _^_}
-use mathlib.Core.Path.{_≡_, sym, ap, ap₂, _∙_}
+use mathlib.Core.Path.{ap₂, _∙_}
 use mathlib.Core.Option.{Option, some}
 use native.Mathlib.Nat.{mul-assoc, mul-le-mul-right, le-refl}
 use native.Mathlib.Omega.{arith}
 use lib.Pow.{pow-pos, pow-mono}
 use Rattle.rules.specs.Walk.{State, keepBest}
-use Rattle.laws.specs.GroupSizes.{groups-all}
 use Rattle.laws.specs.Decided.{decided-none, blank-none}
 use Rattle.tree.specs.Grouping.{Grouped}
 use Rattle.tree.specs.Nodes.{Begun, most}
 use Rattle.tree.specs.declared.group.Groups.{Groups}
+use Rattle.tree.proofs.Tabling.{all-indices}
 use Rattle.tree.proofs.Trying.{running-state, under}
 use borrow.Author.Needs.{needs}
 use Rattle.tree.proofs.walk.walk.Statement.{statement}
@@ -19,7 +19,6 @@ use Rattle.tree.proofs.walk.walk.Tie as tie
 -- the word 0, and room for the distance of every slot
 begin : {g : Groups} → Grouped g → Begun g (g .count) 0 0
 begin {g} given =
-    let all : g .count * g .size ≡ 2 ^ (g .n) = ap₂ (λ (a b : ℕ). a * b) (given .all) (given .sized) ∙ groups-all (g .n) (g .folding) (given .fits) in
     record {
       within = le-refl (g .count);
       small = pow-pos (2 ^ (g .n));
@@ -28,8 +27,7 @@ begin {g} given =
           omega (
             arith,
             mul-assoc (g .count) (g .size) most,
-            all,
-            mul-le-mul-right {m = g .count * g .size} {n = 64} most (omega (arith, all, pow-mono {j = 6} (given .small))),
+            mul-le-mul-right {m = g .count * g .size} {n = 64} most (omega (arith, all-indices given, pow-mono {j = 6} (given .small))),
           );
     }
 
