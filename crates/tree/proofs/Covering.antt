@@ -24,10 +24,13 @@ use Rattle.tree.proofs.WordsDoubled.{Begins, begins-doubled}
 pub record Covering (g : Groups) (r : List ℕ) (m : ℕ) : Type 0 where
   pub long : length r ≡ 64
   pub power : (b : ℕ) × (m ≡ 2 ^ b)
-  pub within : m ≤ g .count
   pub done : Begins r (spreadOf (g .n) (g .folding)) m
 
--- a power of two below another: so is, or equal, twice it
+-- m is not 0
+pub some-done : {g : Groups} {r : List ℕ} {m : ℕ} → Covering g r m → 0 < m
+some-done inv = rw (inv .power .1) (pow-pos (inv .power .0))
+
+-- a power of two below another: twice it is at most the other
 twice-within : (b c : ℕ) → 2 ^ b < 2 ^ c → 2 ^ b + 2 ^ b ≤ 2 ^ c
 twice-within b c h = go (decLt b c)
   where
@@ -42,24 +45,19 @@ module _ {g : Groups} (given : Grouped g) where
 
   -- group 0 covers itself alone
   pub covering-first : (r : List ℕ) → length r ≡ 64 → getD r 0 0 ≡ 1 → Covering g r 1
-  covering-first r long first =
-      record { long = long; power = (0, refl); within = rw count-is (pow-pos (g .n - ones (g .folding))); done = λ k h. go k (omega arith) }
+  covering-first r long first = record { long = long; power = (0, refl); done = λ k h. go k (omega arith) }
     where
       go : (k : ℕ) → k ≡ 0 → getD r k 0 ≡ spreadOf (g .n) (g .folding) k
       go k e = rw e (first ∙ sym (spread-first (g .n) (g .folding) (given .fits)))
 
   module _ {r : List ℕ} {m : ℕ} (inv : Covering g r m) (inside : m < g .count) where
     -- there are as many groups more
-    pub groups-more : m + m ≤ g .count
+    groups-more : m + m ≤ g .count
     groups-more = rw (inv .power .1, count-is) (twice-within (inv .power .0) _ (rw (inv .power .1, count-is) at inside))
 
     -- and room for them
     pub room-behind : m + m ≤ length r
     room-behind = omega (arith, groups-more, few-groups given, inv .long)
-
-    -- m is not 0
-    pub some-done : 0 < m
-    some-done = rw (inv .power .1) (pow-pos (inv .power .0))
 
     -- the place that bit m has alone
     abbrev place : ℕ
@@ -92,15 +90,14 @@ module _ {g : Groups} (given : Grouped g) where
         record {
           long = same ∙ inv .long;
           power = (suc (inv .power .0), twice ∙ ap (λ (x : ℕ). x + x) (inv .power .1) ∙ omega (arith, two-pow-succ (inv .power .0)));
-          within = rw twice groups-more;
           done = rw twice (begins-doubled (spreadOf (g .n) (g .folding)) doubled moved-xor (inv .done));
         }
       where
-        at : getD l (m * g .size) 0 ≡ place
-        at = index-at seated (m * g .size) (first-seat given inside) ∙ ap (λ (s : ℕ). seatIndex (g .n) (g .folding) (m * s)) (given .sized)
+        here : getD l (m * g .size) 0 ≡ place
+        here = index-at seated (m * g .size) (first-seat given inside) ∙ ap (λ (s : ℕ). seatIndex (g .n) (g .folding) (m * s)) (given .sized)
 
         doubled : Doubled r after m (λ w. bitXor w (w * 2 ^ place % 2 ^ 64))
-        doubled = rw at at made
+        doubled = rw here at made
 
         twice : m * 2 ≡ m + m
         twice = omega arith

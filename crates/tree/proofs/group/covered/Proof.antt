@@ -4,7 +4,7 @@ use mathlib.Core.Path.{refl, sym}
 use native.Mathlib.Omega.{arith}
 use borrow.Author.Needs.{needs}
 use Rattle.tree.proofs.Tabling.{few-groups, first-seat-fits}
-use Rattle.tree.proofs.Covering.{Covering, covering-first, groups-more, room-behind, some-done, covering-next}
+use Rattle.tree.proofs.Covering.{Covering, covering-first, room-behind, some-done, covering-next}
 use Rattle.tree.proofs.group.covered.Statement.{statement}
 use Rattle.tree.proofs.group.covered.Tie as tie
 
@@ -49,9 +49,7 @@ mul-m c =
 loop-less : tie.Need-loop-less Inv-loop μ-loop
 loop-less c =
     let test = c .before .before .before .before .before in
-    let given = test .before .before .before .pre .0 in
-    let inv = test .before .before .loop .inv in
-    omega (arith, test .if1 .taken, some-done given inv (test .if1 .taken), groups-more given inv (test .if1 .taken))
+    omega (arith, test .if1 .taken, some-done (test .before .before .loop .inv))
 
 loop-again : tie.Need-loop-again Inv-loop μ-loop
 loop-again c =
