@@ -1,108 +1,103 @@
--- The loop that lists what each group covers: a group's highest one bit moves what the rest of it covers.
+-- The loop that lists what each group covers: one bit more doubles the groups, and moves what the rest of a group covers.
 use Prim.Native.Nat.{ℕ, suc, _+_, _-_, _*_, _%_, _^_, _≤_, _<_}
 use mathlib.Core.Path.{_≡_, refl, sym, ap, _∙_}
 use mathlib.Core.List.{List}
 use native.Mathlib.Nat.{add-comm, two-pow-succ, mod-eq-of-lt, lt-of-lt-of-le}
+use native.Mathlib.Decide.{decLt}
 use native.Mathlib.Omega.{arith}
 use lib.Bits.{bitXor, xor-comm, xor-shifted}
 use lib.Count.{ones}
-use lib.ListN.{length, set, getD, length-set}
+use lib.ListN.{length, getD}
 use lib.Pow.{pow-mono, pow-pos}
 use Rattle.laws.specs.Matrix.{codeword-lt}
-use Rattle.laws.specs.Each.{each-stored}
 use Rattle.laws.specs.Copied.{spreadOf, spread-first, spread-more}
 use Rattle.laws.specs.Seats.{seatIndex}
+use Rattle.laws.specs.SeatedDown.{groups-blocks}
 use Rattle.tree.specs.declared.group.Groups.{Groups}
-use Rattle.tree.specs.Grouping.{Grouped}
+use Rattle.tree.specs.Grouping.{Grouped, Doubled}
 use Rattle.tree.specs.Seating.{Seated}
 use Rattle.tree.proofs.SeatLoops.{index-at}
 use Rattle.tree.proofs.Tabling.{few-groups, first-seat}
+use Rattle.tree.proofs.WordsDoubled.{Begins, begins-doubled}
 
--- the groups below k are done
-abbrev Done : Groups → List ℕ → ℕ → Type 0
-Done g r k = (j : ℕ) → j < k → getD r j 0 ≡ spreadOf (g .n) (g .folding) j
-
--- the loop's invariant: the groups below k are done, and highest is a power of two
-pub record Covering (g : Groups) (r : List ℕ) (highest k : ℕ) : Type 0 where
+-- the loop's invariant: the groups below m are done, and m is a power of two
+pub record Covering (g : Groups) (r : List ℕ) (m : ℕ) : Type 0 where
   pub long : length r ≡ 64
-  pub power : (b : ℕ) × (highest ≡ 2 ^ b)
-  pub above : highest ≤ k
-  pub below : k ≤ highest * 2
-  pub done : Done g r k
+  pub power : (b : ℕ) × (m ≡ 2 ^ b)
+  pub done : Begins r (spreadOf (g .n) (g .folding)) m
 
--- the highest one bit of k
-pub record Highest (highest k : ℕ) : Type 0 where
-  pub power : (b : ℕ) × (highest ≡ 2 ^ b)
-  pub above : highest ≤ k
-  pub below : k < highest * 2
+-- m is not 0
+pub some-done : {g : Groups} {r : List ℕ} {m : ℕ} → Covering g r m → 0 < m
+some-done inv = rw (inv .power .1) (pow-pos (inv .power .0))
 
--- a power of two is not 0
-pub some-power : {highest : ℕ} → (b : ℕ) × (highest ≡ 2 ^ b) → 0 < highest
-some-power power = rw (power .1) (pow-pos (power .0))
-
--- the test: k is the next power of two, or highest stays
-module _ {g : Groups} {r : List ℕ} {highest k : ℕ} (inv : Covering g r highest k) where
-  pub highest-itself : k ≡ highest * 2 → Highest k k
-  highest-itself e =
-      record {
-        power = (suc (inv .power .0), e ∙ ap (λ (h : ℕ). h * 2) (inv .power .1) ∙ sym (two-pow-succ (inv .power .0) ∙ omega arith));
-        above = omega arith;
-        below = omega (arith, some-power (inv .power));
-      }
-
-  pub highest-still : (k ≡ highest * 2 → ⊥) → Highest highest k
-  highest-still other = record { power = inv .power; above = inv .above; below = omega (arith, inv .below, other) }
+-- a power of two below another: twice it is at most the other
+twice-within : (b c : ℕ) → 2 ^ b < 2 ^ c → 2 ^ b + 2 ^ b ≤ 2 ^ c
+twice-within b c h = go (decLt b c)
+  where
+    go : Dec (b < c) → 2 ^ b + 2 ^ b ≤ 2 ^ c
+    go (yes l) = omega (arith, two-pow-succ b, pow-mono {i = suc b} {j = c} l)
+    go (no g) = absurd (omega (arith, h, pow-mono {i = c} {j = b} (omega arith)))
 
 module _ {g : Groups} (given : Grouped g) where
+  -- the groups are a power of two
+  count-is : g .count ≡ 2 ^ (g .n - ones (g .folding))
+  count-is = given .all ∙ groups-blocks (g .n) (g .folding) (given .fits)
+
   -- group 0 covers itself alone
-  pub covering-first : (r : List ℕ) → length r ≡ 64 → getD r 0 0 ≡ 1 → Covering g r 1 1
-  covering-first r long first =
-      record { long = long; power = (0, refl); above = omega arith; below = omega arith; done = λ k h. go k (omega arith) }
+  pub covering-first : (r : List ℕ) → length r ≡ 64 → getD r 0 0 ≡ 1 → Covering g r 1
+  covering-first r long first = record { long = long; power = (0, refl); done = λ k h. go k (omega arith) }
     where
       go : (k : ℕ) → k ≡ 0 → getD r k 0 ≡ spreadOf (g .n) (g .folding) k
       go k e = rw e (first ∙ sym (spread-first (g .n) (g .folding) (given .fits)))
 
-  module _ {highest k : ℕ} (is : Highest highest k) (inside : k < g .count) where
-    -- the place that the highest one bit has alone
-    abbrev place : ℕ
-    place = seatIndex (g .n) (g .folding) (highest * 2 ^ ones (g .folding))
+  module _ {r : List ℕ} {m : ℕ} (inv : Covering g r m) (inside : m < g .count) where
+    -- there are as many groups more
+    groups-more : m + m ≤ g .count
+    groups-more = rw (inv .power .1, count-is) (twice-within (inv .power .0) _ (rw (inv .power .1, count-is) at inside))
 
-    -- what a group covers, from what the rest of it covers
-    moved : (spreadOf (g .n) (g .folding) (k - highest) < 2 ^ place)
-        × (spreadOf (g .n) (g .folding) k ≡ spreadOf (g .n) (g .folding) (k - highest) + spreadOf (g .n) (g .folding) (k - highest) * 2 ^ place)
-    moved =
-        let b = is .power .0 in
-        let whole : 2 ^ b + (k - highest) ≡ k = omega (arith, is .power .1, is .above) in
-        let law =
-        spread-more (g .n) (g .folding) (given .fits) b (k - highest) (omega (arith, is .power .1, is .above, is .below))
-        (rw whole (rw (given .all) at inside))
-        in
-        rw (whole, ← is .power .1) at law
+    -- and room for them
+    pub room-behind : m + m ≤ length r
+    room-behind = omega (arith, groups-more, few-groups given, inv .long)
+
+    -- the place that bit m has alone
+    abbrev place : ℕ
+    place = seatIndex (g .n) (g .folding) (m * 2 ^ ones (g .folding))
+
+    -- what a group with bit m covers, from what the rest of it covers
+    moved : (k : ℕ) → k < m → (spreadOf (g .n) (g .folding) k < 2 ^ place)
+        × (spreadOf (g .n) (g .folding) (m + k) ≡ spreadOf (g .n) (g .folding) k + spreadOf (g .n) (g .folding) k * 2 ^ place)
+    moved k h =
+        let b = inv .power .0 in
+        let is = inv .power .1 in
+        rw (← is) at (spread-more (g .n) (g .folding) (given .fits) b k (rw is at h) (rw (← is, ← given .all) (omega (arith, groups-more, h))))
 
     -- as the code adds it: no one bit of the rest lies where it is moved to
-    pub moved-xor : {l : List ℕ} → Seated l (g .n) (g .folding) → (rest : ℕ) → rest ≡ spreadOf (g .n) (g .folding) (k - highest)
-        → bitXor rest (rest * 2 ^ getD l (highest * g .size) 0 % 2 ^ 64) ≡ spreadOf (g .n) (g .folding) k
-    moved-xor {l} seated rest e =
-        let at : getD l (highest * g .size) 0 ≡ place =
-        index-at seated (highest * g .size) (first-seat given (omega (arith, is .above)))
-        ∙ ap (λ (s : ℕ). seatIndex (g .n) (g .folding) (highest * s)) (given .sized)
-        in
-        let all : rest + rest * 2 ^ place ≡ spreadOf (g .n) (g .folding) k = ap (λ (x : ℕ). x + x * 2 ^ place) e ∙ sym (moved .1) in
-        let small : spreadOf (g .n) (g .folding) k < 2 ^ 64 =
+    moved-xor : (k : ℕ) → k < m
+        → bitXor (spreadOf (g .n) (g .folding) k) (spreadOf (g .n) (g .folding) k * 2 ^ place % 2 ^ 64) ≡ spreadOf (g .n) (g .folding) (m + k)
+    moved-xor k h =
+        let rest : ℕ = spreadOf (g .n) (g .folding) k in
+        let small : spreadOf (g .n) (g .folding) (m + k) < 2 ^ 64 =
         lt-of-lt-of-le (codeword-lt (g .n) _) (pow-mono {j = 64} (pow-mono {j = 6} (given .small)))
         in
-        let fits : rest * 2 ^ place < 2 ^ 64 = omega (arith, all, small) in
-        ap (λ (i : ℕ). bitXor rest (rest * 2 ^ i % 2 ^ 64)) at ∙ ap (bitXor rest) (mod-eq-of-lt fits) ∙ xor-comm rest (rest * 2 ^ place)
-        ∙ xor-shifted rest place rest (rw e (moved .0)) ∙ add-comm (rest * 2 ^ place) rest ∙ all
+        let fits : rest * 2 ^ place < 2 ^ 64 = omega (arith, moved k h .1, small) in
+        ap (bitXor rest) (mod-eq-of-lt fits) ∙ xor-comm rest (rest * 2 ^ place) ∙ xor-shifted rest place rest (moved k h .0)
+        ∙ add-comm (rest * 2 ^ place) rest ∙ sym (moved k h .1)
 
-    -- one group more
-    pub covering-next : (r : List ℕ) (v : ℕ) → length r ≡ 64 → Done g r k → v ≡ spreadOf (g .n) (g .folding) k
-        → Covering g (set r k v) highest (k + 1)
-    covering-next r v long done e =
+    -- one bit more doubles the groups
+    pub covering-next : {l after : List ℕ} → Seated l (g .n) (g .folding) → length after ≡ length r
+        → Doubled r after m (λ w. bitXor w (w * 2 ^ getD l (m * g .size) 0 % 2 ^ 64)) → Covering g after (m * 2)
+    covering-next {l = l} {after = after} seated same made =
         record {
-          long = length-set r k v ∙ long;
-          power = is .power;
-          above = omega (arith, is .above);
-          below = omega (arith, is .below);
-          done = each-stored (spreadOf (g .n) (g .folding)) 0 r k v (omega (arith, long, few-groups given)) e done;
+          long = same ∙ inv .long;
+          power = (suc (inv .power .0), twice ∙ ap (λ (x : ℕ). x + x) (inv .power .1) ∙ omega (arith, two-pow-succ (inv .power .0)));
+          done = rw twice (begins-doubled (spreadOf (g .n) (g .folding)) doubled moved-xor (inv .done));
         }
+      where
+        here : getD l (m * g .size) 0 ≡ place
+        here = index-at seated (m * g .size) (first-seat given inside) ∙ ap (λ (s : ℕ). seatIndex (g .n) (g .folding) (m * s)) (given .sized)
+
+        doubled : Doubled r after m (λ w. bitXor w (w * 2 ^ place % 2 ^ 64))
+        doubled = rw here at made
+
+        twice : m * 2 ≡ m + m
+        twice = omega arith

@@ -15,7 +15,7 @@ use Rattle.tree.specs.Seating.{Seated}
 
 module _ {l : List ℕ} {n folding : ℕ} (given : Seated l n folding) where
   -- every seat is a slot of the largest block
-  pub seats-fit : 2 ^ n ≤ 64
+  seats-fit : 2 ^ n ≤ 64
   seats-fit = pow-mono (given .few)
 
   -- the index at a seat

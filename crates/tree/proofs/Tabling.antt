@@ -52,6 +52,10 @@ module _ {g : Groups} (given : Grouped g) where
   pub first-seat : {k : ℕ} → k < g .count → k * g .size < 2 ^ g .n
   first-seat h = rw (← all-indices) (mul-lt-mul-of-pos-right h some-size)
 
+  -- is a slot of the largest block
+  pub first-seat-fits : {k : ℕ} → k < g .count → k * g .size < 64
+  first-seat-fits h = lt-of-lt-of-le (first-seat h) (pow-mono {j = 6} (given .small))
+
   -- a seat of group 0
   pub seat-within : {t : ℕ} → t < g .size → t < 2 ^ g .n
   seat-within h = lt-of-lt-of-le (rw (given .sized) at h) (pow-mono (ones-le (g .n) (g .folding) (given .fits)))

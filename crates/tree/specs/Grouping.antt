@@ -2,7 +2,6 @@
 use Prim.Native.Nat.{ℕ, _+_, _^_, _≤_, _<_}
 use mathlib.Core.Path.{_≡_}
 use mathlib.Core.List.{List}
-use lib.Bits.{bitXor}
 use lib.Count.{ones}
 use lib.ListN.{getD}
 use Rattle.rules.specs.Folding as rules
@@ -26,10 +25,10 @@ Covered l g = (k : ℕ) → k < g .count → getD l k 0 ≡ spreadOf (g .n) (g .
 abbrev pub Shut : List ℕ → Groups → ℕ → Type 0
 Shut l g mask = (k : ℕ) → k < g .count → getD l k 0 ≡ shutOf (g .n) (g .folding) mask k
 
--- the first m words, and behind them once more with a word added to each
-pub record Doubled (before after : List ℕ) (m column : ℕ) : Type 0 where
+-- the first m words, and behind them what a function makes of each
+pub record Doubled (before after : List ℕ) (m : ℕ) (f : ℕ → ℕ) : Type 0 where
   pub kept : (u : ℕ) → u < m → getD after u 0 ≡ getD before u 0
-  pub added : (u : ℕ) → u < m → getD after (m + u) 0 ≡ bitXor (getD before u 0) column
+  pub added : (u : ℕ) → u < m → getD after (m + u) 0 ≡ f (getD before u 0)
 
 -- for each pattern, the word whose codeword has it in group 0 and zeros elsewhere
 abbrev pub Changes : List ℕ → Groups → Type 0

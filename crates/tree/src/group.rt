@@ -1,7 +1,8 @@
 // The groups of a folding, and what the walk reads of each: what its patterns change in the word, and its frozen indices.
 // Words are in index order; seats only say which indices a group has.
 ghost use mathlib.Core.Path.{_≡_};
-ghost use Prim.Native.Nat.{_+_, _-_, _^_, _≤_, _<_};
+ghost use Prim.Native.Nat.{_+_, _-_, _*_, _%_, _^_, _≤_, _<_};
+ghost use lib.Bits.{bitXor};
 ghost use lib.Count.{ones};
 ghost use lib.ListN.{length};
 ghost use Rattle.laws.specs.SeatWords.{unseat};
@@ -31,28 +32,6 @@ pub(crate) fn all_groups(n: u32, folding: u32) -> Groups
         size,
         count,
     }
-}
-
-// For each group, the codeword of its smallest index alone: a one at the smallest index of each group that it covers.
-// It is that of the group without its highest one bit, and the same moved up by the smallest index that this bit has alone.
-pub(crate) fn covered(index: &[usize; 64], groups: Groups) -> [Word; 64]
-    requires { ⌜ Grouped groups × Seated (now index) (groups .n) (groups .folding) ⌝ }
-    ensures { λ r. ⌜ Covered r groups ⌝ }
-{
-    let mut r = [0u64; 64];
-    r[0] = 1;
-    let mut highest = 1;
-    let mut k = 1;
-    while k < groups.count {
-        if k == highest * 2 {
-            highest = k;
-        }
-        let rest = r[k - highest];
-        let first = highest * groups.size;
-        r[k] = word::xor(rest, word::place::above(rest, index[first]));
-        k += 1;
-    }
-    r
 }
 
 // The indices of group 0, a one at each.
@@ -85,10 +64,40 @@ pub(crate) fn shut(index: &[usize; 64], groups: Groups, frozen: Word) -> [Word; 
     r
 }
 
+// The first m words once more behind them, each with itself moved up added.
+fn double_moved(words: &mut [Word], m: usize, step: usize)
+    requires { ⌜ m + m ≤ length (now words) ⌝ }
+    ensures { λ _. ⌜ Doubled (now (words .entry)) (now (words .exit)) m (λ w. bitXor w (w * 2 ^ step % 2 ^ 64)) ⌝ }
+{
+    let mut u = 0;
+    while u < m {
+        let w = words[u];
+        words[m + u] = word::xor(w, word::place::above(w, step));
+        u += 1;
+    }
+}
+
+// For each group, the codeword of its smallest index alone: a one at the smallest index of each group that it covers.
+// A group with a one bit more covers what the rest of it covers, and the same moved up by the smallest index of that bit alone.
+pub(crate) fn covered(index: &[usize; 64], groups: Groups) -> [Word; 64]
+    requires { ⌜ Grouped groups × Seated (now index) (groups .n) (groups .folding) ⌝ }
+    ensures { λ r. ⌜ Covered r groups ⌝ }
+{
+    let mut r = [0u64; 64];
+    r[0] = 1;
+    let mut m = 1;
+    while m < groups.count {
+        let first = m * groups.size;
+        double_moved(&mut r, m, index[first]);
+        m = m * 2;
+    }
+    r
+}
+
 // The first m words once more behind them, each with a word added.
 fn double_words(words: &mut [Word], m: usize, column: Word)
     requires { ⌜ m + m ≤ length (now words) ⌝ }
-    ensures { λ _. ⌜ Doubled (now (words .entry)) (now (words .exit)) m (wordOf column) ⌝ }
+    ensures { λ _. ⌜ Doubled (now (words .entry)) (now (words .exit)) m (λ w. bitXor w (wordOf column)) ⌝ }
 {
     let mut u = 0;
     while u < m {

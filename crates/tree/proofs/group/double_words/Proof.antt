@@ -1,19 +1,20 @@
 -- `tree::group::double_words` meets its contract. Invariant: the first m words are kept, and u of them added behind.
 use Prim.Native.Nat.{_-_}
 use native.Mathlib.Omega.{arith}
+use lib.Bits.{bitXor}
 use borrow.Author.Needs.{needs}
-use Rattle.tree.proofs.Changing.{Turned, turned-none, turned-next}
+use Rattle.tree.proofs.WordsDoubled.{Turned, turned-none, turned-next, turned-all}
 use Rattle.tree.proofs.group.double_words.Statement.{statement}
 use Rattle.tree.proofs.group.double_words.Tie as tie
 
 abbrev Inv-loop : tie.InvT-loop
-Inv-loop words₀ m column u₀ words u = Turned words₀ words m column u
+Inv-loop words₀ m column u₀ words u = Turned words₀ words m (λ w. bitXor w column) u
 
 abbrev μ-loop : tie.MeasureT-loop
 μ-loop words₀ m column u₀ words u = m - u
 
 loop-holds : tie.Need-loop-holds Inv-loop μ-loop
-loop-holds c = turned-none _ _ _
+loop-holds c = turned-none
 
 mul-xor : tie.Need-mul-xor Inv-loop μ-loop
 mul-xor c = omega (arith, c .before .before .before .pre, c .before .before .before .good .0 .1)
@@ -47,9 +48,7 @@ same-length : tie.Need-same-length Inv-loop μ-loop
 same-length c = c .before .loop .inv .same
 
 returns : tie.Need-returns Inv-loop μ-loop
-returns c =
-    let turned = c .before .loop .inv in
-    record { kept = turned .kept; added = λ u h. turned .added u (omega arith) }
+returns c = turned-all (c .before .loop .inv) (omega arith)
 
 pub double-words-spec : {M : Type 1} → statement M
 double-words-spec =

@@ -7,8 +7,7 @@ use lib.ListN.{length, length-set, getD}
 use borrow.Author.Needs.{needs}
 use Rattle.laws.specs.Each.{each-stored}
 use Rattle.laws.specs.Decided.{shutOf}
-use Rattle.tree.proofs.SeatLoops.{seats-fit}
-use Rattle.tree.proofs.Tabling.{few-groups, first-seat, shut-here}
+use Rattle.tree.proofs.Tabling.{few-groups, first-seat-fits, shut-here}
 use Rattle.tree.proofs.group.shut.Statement.{statement}
 use Rattle.tree.proofs.group.shut.Tie as tie
 
@@ -31,7 +30,7 @@ small c = omega (arith, few-groups (c .before .before .before .before .before .p
 
 -- the first seat of a group
 seat-at : (c : tie.After-struct-known2 Inv-loop μ-loop) → c .before .before .before .loop .k * c .before .before .before .before .before .args .groups .size < 64
-seat-at c = let given = c .before .before .before .before .before .pre in omega (arith, first-seat (given .0) (c .before .if1 .taken), seats-fit (given .1))
+seat-at c = first-seat-fits (c .before .before .before .before .before .pre .0) (c .before .if1 .taken)
 
 mul-first : tie.Need-mul-first Inv-loop μ-loop
 mul-first c = omega (arith, seat-at c)
