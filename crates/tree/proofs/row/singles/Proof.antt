@@ -1,4 +1,4 @@
--- `tree::row::rows` meets its contract: before each turn the rows of the first k groups are right.
+-- `tree::row::singles` meets its contract: before each turn the rows of the first k groups are right.
 use Prim.Native.Nat.{_*_, _-_, _≤_}
 use mathlib.Core.Path.{_≡_, refl, sym, _∙_}
 use native.Mathlib.Numerals.{add-one}
@@ -8,8 +8,8 @@ use lib.ListN.{length}
 use lib.Pow.{pow-mono}
 use Rattle.tree.proofs.Building.{size-small}
 use Rattle.tree.proofs.Places.{place, row-entries, group-seats, Filled, filled-none, filled-more}
-use Rattle.tree.proofs.row.rows.Statement.{statement}
-use Rattle.tree.proofs.row.rows.Tie as tie
+use Rattle.tree.proofs.row.singles.Statement.{statement}
+use Rattle.tree.proofs.row.singles.Tie as tie
 
 abbrev Inv-loop : tie.InvT-loop
 Inv-loop levels index groups size table₀ spare₀ entries k₀ table spare k =
@@ -75,8 +75,8 @@ returns c =
     let all : c .before .loop .k ≡ c .before .before .args .groups = omega arith in
     rw all at (c .before .loop .inv .2 .right)
 
-pub rows-spec : {M : Type 1} → statement M
-rows-spec =
+pub singles-spec : {M : Type 1} → statement M
+singles-spec =
     tie.close
     (tie.spec
     Inv-loop
