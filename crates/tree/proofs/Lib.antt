@@ -12,6 +12,8 @@ pub mod BothEnds
 pub mod Doubling
 pub mod Mirrors
 pub mod Merging
+pub mod LaneTurns
+pub mod LaneMirrors
 pub mod Building
 pub mod Places
 pub mod Searching

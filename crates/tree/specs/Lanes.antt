@@ -1,10 +1,12 @@
 -- Four rows side by side: a list of 1024 entries has four lanes of 256, and in each the row of a group is built.
-use Prim.Native.Nat.{ℕ, _+_, _-_, _*_, _^_, _≤_, _<_}
+use Prim.Native.Nat.{ℕ, _+_, _-_, _*_, _^_, _≤_, _<_, min}
 use mathlib.Core.Path.{_≡_}
+use mathlib.Core.Bool.{cond}
 use mathlib.Core.Logic.{_⊎_}
 use mathlib.Core.List.{List}
+use lib.Dec.{ltb}
 use lib.IntN.{ℤ}
-use lib.ListN.{length, getD, take, drop}
+use lib.ListN.{length, getD, take, drop, set}
 use Rattle.laws.specs.SortedLists.{Rising}
 use Rattle.laws.specs.SortedRows.{doubled}
 use Rattle.tree.specs.Costs.{Mirrored, seatCost, seatRow}
@@ -16,6 +18,12 @@ lane l k m = take m (drop (k * 256) l)
 -- an entry with what a bit adds to it
 abbrev pub raised : List ℕ → ℕ → ℕ → ℕ
 raised l i x = getD l i 0 + x
+
+-- a turn of the lane from `start` on: of t entries a came with bit 0, and the smaller of the two next ones goes to place t
+abbrev pub Turned : List ℕ → ℕ → ℕ → ℕ → ℕ → ℕ → List ℕ → List ℕ → ℕ → Type 0
+Turned from start t a x y old new r =
+    (new ≡ set old (start + t) (min (raised from (start + a) x) (raised from (start + (t - a)) y)))
+    × (r ≡ a + cond (ltb (raised from (start + a) x) (raised from (start + (t - a)) y)) 1 0)
 
 -- four lanes with a row of m entries each, to which one slot more adds `zero` or `one`: the rows rise and are mirrored, and sums fit
 pub record Lanes (from : List ℕ) (m : ℕ) (zero one : List ℕ) : Type 0 where

@@ -1,12 +1,10 @@
 // Four rows side by side. Merging a row is one chain of steps, each of which waits for the one before; four rows of groups
 // with 8 slots, merged in step, go as fast as one. A list of 1024 entries has four lanes of 256, one for each of four groups.
 ghost use mathlib.Core.Path.{_≡_};
-ghost use mathlib.Core.Bool.{cond};
-ghost use Prim.Native.Nat.{ℕ, suc, _+_, _*_, _-_, _^_, _<_, _≤_, min};
-ghost use lib.Dec.{ltb};
-ghost use lib.ListN.{length, getD, set};
+ghost use Prim.Native.Nat.{ℕ, suc, _+_, _*_, _-_, _^_, _<_, _≤_};
+ghost use lib.ListN.{length, getD};
 ghost use Rattle.tree.specs.Costs.{Levelled, RowsRight};
-ghost use Rattle.tree.specs.Lanes.{raised, Lanes, Merged, Completed, FourCosts, FourRows};
+ghost use Rattle.tree.specs.Lanes.{raised, Turned, Lanes, Merged, Completed, FourCosts, FourRows};
 use crate::cost::slot_costs;
 use crate::row::least;
 use crate::row::less;
@@ -25,7 +23,7 @@ fn turn(
 ) -> usize
     requires { ⌜ (a ≤ t) × (start + t < length (now from)) × (start + t < length (now to)) ⌝ }
     requires { ⌜ (raised (now from) (start + a) zero < 2 ^ 63) × (raised (now from) (start + (t - a)) one < 2 ^ 63) ⌝ }
-    ensures { λ r. ⌜ (now (to .exit) ≡ set (now (to .entry)) (start + t) (min (raised (now (from .entry)) (start + a) zero) (raised (now (from .entry)) (start + (t - a)) one))) × (r ≡ a + cond (ltb (raised (now (from .entry)) (start + a) zero) (raised (now (from .entry)) (start + (t - a)) one)) 1 0) ⌝ }
+    ensures { λ r. ⌜ Turned (now (from .entry)) start t a zero one (now (to .entry)) (now (to .exit)) r ⌝ }
 {
     let x = from[start + a] + zero;
     let y = from[start + (t - a)] + one;

@@ -1,86 +1,92 @@
+-- `tree::four::merge_lanes` meets its contract: before each turn every lane has the first t entries of its row.
+use Prim.Native.Nat.{_-_}
+use mathlib.Core.Path.{_∙_}
+use native.Mathlib.Omega.{arith}
+use borrow.Author.Needs.{needs}
+use Rattle.tree.proofs.LaneTurns.{turning-none, turn-ready, InStep, step-more, step-all}
 use Rattle.tree.proofs.four.merge_lanes.Statement.{statement}
 use Rattle.tree.proofs.four.merge_lanes.Tie as tie
-use Rattle.tree.proofs.four.merge_lanes.Reads as reads
-use Rattle.tree.proofs.four.merge_lanes.Lts as lts
-use Rattle.tree.proofs.four.turn.Reads as turn-reads
 
 abbrev Inv-loop : tie.InvT-loop
-Inv-loop from to₀ m zero one a₀ b₀ c₀ d₀ t₀ to a b c d t = ?
+Inv-loop from to₀ m zero one a₀ b₀ c₀ d₀ t₀ to a b c d t = InStep from m zero one to t a b c d
 
 abbrev μ-loop : tie.MeasureT-loop
-μ-loop from to₀ m zero one a₀ b₀ c₀ d₀ t₀ to a b c d t = ?
+μ-loop from to₀ m zero one a₀ b₀ c₀ d₀ t₀ to a b c d t = m - t
 
--- src/four.rt:46:5
 loop-holds : tie.Need-loop-holds Inv-loop μ-loop
-loop-holds c = ?
+loop-holds c = record {
+  met = omega arith;
+  long = c .before .before .pre .1;
+  lane0 = turning-none _ _ _ _ 0 _;
+  lane1 = turning-none _ _ _ _ 1 _;
+  lane2 = turning-none _ _ _ _ 2 _;
+  lane3 = turning-none _ _ _ _ 3 _;
+}
 
--- src/four.rt:47:37
 element-copy-out-turn : tie.Need-element-copy-out-turn Inv-loop μ-loop
-element-copy-out-turn c = ?
+element-copy-out-turn c = search needs
 
--- src/four.rt:47:46
 element-copy-out-turn-2 : tie.Need-element-copy-out-turn-2 Inv-loop μ-loop
-element-copy-out-turn-2 c = ?
+element-copy-out-turn-2 c = search needs
 
--- src/four.rt:47:9
 turn-requires : tie.Need-turn-requires Inv-loop μ-loop
-turn-requires c κs = ?
+turn-requires c κs =
+    let l = c .before .before .before .before .loop in
+    turn-ready (c .before .before .before .before .before .before .before .pre .0) {k = 0} (omega arith) (c .before .before .before .loop-test .taken) (l .a) (l .inv .lane0 .some) (l .inv .long)
 
--- src/four.rt:48:39
 element-copy-out-turn-3 : tie.Need-element-copy-out-turn-3 Inv-loop μ-loop
-element-copy-out-turn-3 c = ?
+element-copy-out-turn-3 c = search needs
 
--- src/four.rt:48:48
 element-copy-out-turn-4 : tie.Need-element-copy-out-turn-4 Inv-loop μ-loop
-element-copy-out-turn-4 c = ?
+element-copy-out-turn-4 c = search needs
 
--- src/four.rt:48:9
 turn-requires-2 : tie.Need-turn-requires-2 Inv-loop μ-loop
-turn-requires-2 c κs = ?
+turn-requires-2 c κs =
+    let l = c .before .before .before .before .before .before .before .before .before .before .loop in
+    turn-ready (c .before .before .before .before .before .before .before .before .before .before .before .before .before .pre .0) {k = 1} (omega arith) (c .before .before .before .before .before .before .before .before .before .loop-test .taken) (l .b) (l .inv .lane1 .some) (c .before .before .before .before .before .turn .kept .1 .0 ∙ l .inv .long)
 
--- src/four.rt:49:39
 element-copy-out-turn-5 : tie.Need-element-copy-out-turn-5 Inv-loop μ-loop
-element-copy-out-turn-5 c = ?
+element-copy-out-turn-5 c = search needs
 
--- src/four.rt:49:48
 element-copy-out-turn-6 : tie.Need-element-copy-out-turn-6 Inv-loop μ-loop
-element-copy-out-turn-6 c = ?
+element-copy-out-turn-6 c = search needs
 
--- src/four.rt:49:9
 turn-requires-3 : tie.Need-turn-requires-3 Inv-loop μ-loop
-turn-requires-3 c κs = ?
+turn-requires-3 c κs =
+    let l = c .before .before .before .before .before .before .before .before .before .before .before .before .before .before .before .before .loop in
+    turn-ready (c .before .before .before .before .before .before .before .before .before .before .before .before .before .before .before .before .before .before .before .pre .0) {k = 2} (omega arith) (c .before .before .before .before .before .before .before .before .before .before .before .before .before .before .before .loop-test .taken) (l .c) (l .inv .lane2 .some) (c .before .before .before .before .before .turn2 .kept .1 .0 ∙ c .before .before .before .before .before .before .before .before .before .before .before .turn .kept .1 .0 ∙ l .inv .long)
 
--- src/four.rt:50:39
 element-copy-out-turn-7 : tie.Need-element-copy-out-turn-7 Inv-loop μ-loop
-element-copy-out-turn-7 c = ?
+element-copy-out-turn-7 c = search needs
 
--- src/four.rt:50:48
 element-copy-out-turn-8 : tie.Need-element-copy-out-turn-8 Inv-loop μ-loop
-element-copy-out-turn-8 c = ?
+element-copy-out-turn-8 c = search needs
 
--- src/four.rt:50:9
 turn-requires-4 : tie.Need-turn-requires-4 Inv-loop μ-loop
-turn-requires-4 c κs = ?
+turn-requires-4 c κs =
+    let l = c .before .before .before .before .before .before .before .before .before .before .before .before .before .before .before .before .before .before .before .before .before .before .loop in
+    turn-ready (c .before .before .before .before .before .before .before .before .before .before .before .before .before .before .before .before .before .before .before .before .before .before .before .before .before .pre .0) {k = 3} (omega arith) (c .before .before .before .before .before .before .before .before .before .before .before .before .before .before .before .before .before .before .before .before .before .loop-test .taken) (l .d) (l .inv .lane3 .some) (c .before .before .before .before .before .turn3 .kept .1 .0 ∙ c .before .before .before .before .before .before .before .before .before .before .before .turn2 .kept .1 .0 ∙ c .before .before .before .before .before .before .before .before .before .before .before .before .before .before .before .before .before .turn .kept .1 .0 ∙ l .inv .long)
 
--- src/four.rt:51:9
 add-t : tie.Need-add-t Inv-loop μ-loop
-add-t c = ?
+add-t c = record { fits = omega (arith, c .before .before .before .before .before .before .before .before .before .before .before .before .before .before .before .before .before .before .before .before .before .before .before .before .loop-test .taken, c .before .before .before .before .before .before .before .before .before .before .before .before .before .before .before .before .before .before .before .before .before .before .before .before .before .before .before .before .pre .0 .room) }
 
--- src/four.rt:46:5
 loop-less : tie.Need-loop-less Inv-loop μ-loop
-loop-less c = ?
+loop-less c = search needs
 
--- src/four.rt:46:5
 loop-again : tie.Need-loop-again Inv-loop μ-loop
-loop-again c = ?
+loop-again c =
+    let l = c .before .before .before .before .before .before .before .before .before .before .before .before .before .before .before .before .before .before .before .before .before .before .before .before .before .loop in
+    let long1 = c .before .before .before .before .before .before .before .before .before .before .before .before .before .before .before .before .before .before .before .before .turn .kept .1 .0 ∙ l .inv .long in
+    let long2 = c .before .before .before .before .before .before .before .before .before .before .before .before .before .before .turn2 .kept .1 .0 ∙ long1 in
+    let long3 = c .before .before .before .before .before .before .before .before .turn3 .kept .1 .0 ∙ long2 in
+    let long4 = c .before .before .turn4 .kept .1 .0 ∙ long3 in
+    step-more (c .before .before .before .before .before .before .before .before .before .before .before .before .before .before .before .before .before .before .before .before .before .before .before .before .before .before .before .before .pre .0) (l .inv) (c .before .before .before .before .before .before .before .before .before .before .before .before .before .before .before .before .before .before .before .before .before .before .before .before .loop-test .taken) (c .before .before .before .before .before .before .before .before .before .before .before .before .before .before .before .before .before .before .before .before .turn .ensures) (c .before .before .before .before .before .before .before .before .before .before .before .before .before .before .turn2 .ensures) (c .before .before .before .before .before .before .before .before .turn3 .ensures) (c .before .before .turn4 .ensures) long1 long2 long3 long4
 
--- src/four.rt:37:1
 same-length : tie.Need-same-length Inv-loop μ-loop
-same-length c = ?
+same-length c = search needs
 
--- src/four.rt:37:1
 returns : tie.Need-returns Inv-loop μ-loop
-returns c = ?
+returns c = step-all (c .before .before .before .before .pre .0) (c .before .loop .inv) (c .loop-test .left)
 
 pub merge-lanes-spec : {M : Type 1} → statement M
 merge-lanes-spec =

@@ -1,77 +1,69 @@
+-- `tree::four::mirror` meets its contract: each turn stores what is left to the sum.
+use Prim.Native.Nat.{_-_, _≤_}
+use mathlib.Core.Path.{_≡_, refl, _∙_}
+use native.Mathlib.Omega.{arith}
+use borrow.Author.Needs.{needs}
+use lib.ListN.{length, length-set}
+use Rattle.tree.specs.Lanes.{Completed}
+use Rattle.tree.proofs.LaneMirrors.{completed-none, lower-same, completed-more}
 use Rattle.tree.proofs.four.mirror.Statement.{statement}
 use Rattle.tree.proofs.four.mirror.Tie as tie
-use Rattle.tree.proofs.four.mirror.Reads as reads
-use Rattle.tree.proofs.four.mirror.Lts as lts
 
 abbrev Inv-loop : tie.InvT-loop
-Inv-loop to₀ start m both t₀ to t = ?
+Inv-loop to₀ start m both t₀ to t = (t ≤ m) × (length to ≡ length to₀) × Completed to₀ start m both to t
 
 abbrev μ-loop : tie.MeasureT-loop
-μ-loop to₀ start m both t₀ to t = ?
+μ-loop to₀ start m both t₀ to t = m - t
 
--- src/four.rt:62:5
 loop-holds : tie.Need-loop-holds Inv-loop μ-loop
-loop-holds c = ?
+loop-holds c = (omega arith, refl, completed-none _ _ _ _)
 
--- src/four.rt:63:49
 add-to : tie.Need-add-to Inv-loop μ-loop
-add-to c = ?
+add-to c = search needs
 
--- src/four.rt:63:46
 mul-to : tie.Need-mul-to Inv-loop μ-loop
-mul-to c = ?
+mul-to c = search needs
 
--- src/four.rt:63:46
 slice-read-to : tie.Need-slice-read-to Inv-loop μ-loop
-slice-read-to c = ?
+slice-read-to c = search needs
 
--- src/four.rt:63:39
 sub-to : tie.Need-sub-to Inv-loop μ-loop
-sub-to c = ?
+sub-to c = let l = c .before .before .loop in let less = c .before .loop-test .taken in
+    rw (lower-same (l .inv .2) less) (c .before .before .before .pre .1 (l .t) less)
 
--- src/four.rt:63:21
 add-to-2 : tie.Need-add-to-2 Inv-loop μ-loop
-add-to-2 c = ?
+add-to-2 c = search needs
 
--- src/four.rt:63:21
 sub-to-2 : tie.Need-sub-to-2 Inv-loop μ-loop
-sub-to-2 c = ?
+sub-to-2 c = search needs
 
--- src/four.rt:63:21
 sub-to-3 : tie.Need-sub-to-3 Inv-loop μ-loop
-sub-to-3 c = ?
+sub-to-3 c = search needs
 
--- src/four.rt:63:12
 add-to-3 : tie.Need-add-to-3 Inv-loop μ-loop
-add-to-3 c = ?
+add-to-3 c = search needs
 
--- src/four.rt:63:9
 mul-to-2 : tie.Need-mul-to-2 Inv-loop μ-loop
-mul-to-2 c = ?
+mul-to-2 c = search needs
 
--- src/four.rt:63:9
 slice-write-to : tie.Need-slice-write-to Inv-loop μ-loop
-slice-write-to c = ?
+slice-write-to c = search needs
 
--- src/four.rt:64:9
 add-t : tie.Need-add-t Inv-loop μ-loop
-add-t c = ?
+add-t c = search needs
 
--- src/four.rt:62:5
 loop-less : tie.Need-loop-less Inv-loop μ-loop
-loop-less c = ?
+loop-less c = search needs
 
--- src/four.rt:62:5
 loop-again : tie.Need-loop-again Inv-loop μ-loop
-loop-again c = ?
+loop-again c = let l = c .before .before .loop in
+    (omega arith, length-set (l .to) _ _ ∙ l .inv .1, completed-more (l .inv .2) (c .before .loop-test .taken) (omega (arith, l .inv .1, c .before .before .before .pre .0)))
 
--- src/four.rt:56:1
 same-length : tie.Need-same-length Inv-loop μ-loop
-same-length c = ?
+same-length c = search needs
 
--- src/four.rt:56:1
 returns : tie.Need-returns Inv-loop μ-loop
-returns c = ?
+returns c = let all : c .before .loop .t ≡ c .before .before .args .m = omega arith in rw all at (c .before .loop .inv .2)
 
 pub mirror-spec : {M : Type 1} → statement M
 mirror-spec =
