@@ -1,5 +1,5 @@
 -- The upper half of each lane is what is left of its lower half to one sum: store by store, and lane by lane.
-use Prim.Native.Nat.{ℕ, suc, _+_, _*_, _-_, _≤_, _<_}
+use Prim.Native.Nat.{ℕ, suc, _+_, _*_, _-_, _^_, _≤_, _<_}
 use mathlib.Core.Path.{_≡_, refl, sym, ap, ap₂, _∙_}
 use mathlib.Core.Logic.{_⊎_, inl, inr, ⊎-elim}
 use mathlib.Core.List.{List}
@@ -62,9 +62,15 @@ module _ {from : List ℕ} {m : ℕ} {zero one : List ℕ} (lanes : Lanes from m
       (lane-at from k m (m - 1) (omega arith))
 
   -- an entry of the lower half is not above the sum
-  pub sum-fits : {to : List ℕ} → Merged from m zero one to m → (i : ℕ) → i < m → getD to (k * 256 + i) 0 ≤ laneSum from m zero one k
+  pub sum-fits : {to : List ℕ} → Mirroring from m zero one to k → (i : ℕ) → i < m → getD to (k * 256 + i) 0 ≤ laneSum from m zero one k
   unfolding Merged
-  sum-fits g i l = omega (arith, g k i h l, sum-of i l)
+  sum-fits s i l = omega (arith, s .lower k i h l, sum-of i l)
+
+  -- and the sum fits
+  pub sum-small : laneSum from m zero one k < 2 ^ 64
+  sum-small =
+      let some = lanes .some in
+      omega (arith, rw (add-zero (k * 256)) at (lanes .small k 0 h some), lanes .small k (m - 1) h (omega arith))
 
   -- one lane more
   pub mirroring-more : {to : List ℕ} → Mirroring from m zero one to k → {new : List ℕ} → length new ≡ 1024

@@ -14,6 +14,7 @@ pub mod Mirrors
 pub mod Merging
 pub mod LaneTurns
 pub mod LaneMirrors
+pub mod LaneRows
 pub mod Building
 pub mod Places
 pub mod Searching

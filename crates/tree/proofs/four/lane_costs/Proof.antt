@@ -1,95 +1,104 @@
+-- `tree::four::lane_costs` meets its contract.
+use Prim.Native.Nat.{suc, _*_, _-_, _≤_}
+use mathlib.Core.Path.{_≡_, _∙_}
+use native.Mathlib.Omega.{arith}
+use borrow.Author.Needs.{needs, sfits-of}
+use lib.ListN.{length, length-set}
+use lib.Pow.{pow-mono}
+use mir.Syntax.{w32}
+use mir.ValLaws.{toZ-ofZ}
+use Rattle.word.proofs.Shifts.{one-shifted}
+use Rattle.tree.specs.Lanes.{FourCosts}
+use Rattle.tree.proofs.LaneRows.{later-seats, costs-none, costs-more}
 use Rattle.tree.proofs.four.lane_costs.Statement.{statement}
 use Rattle.tree.proofs.four.lane_costs.Tie as tie
-use Rattle.tree.proofs.four.lane_costs.Reads as reads
-use Rattle.tree.proofs.four.lane_costs.Lts as lts
-use Rattle.tree.proofs.cost.slot_costs.Reads as slot-costs-reads
-use Rattle.tree.proofs.row.seat_level.Reads as seat-level-reads
 
 abbrev Inv-loop : tie.InvT-loop
-Inv-loop zero₀ one₀ t levels index first pattern k₀ zero one k = ?
+Inv-loop zero₀ one₀ t levels index first pattern k₀ zero one k =
+    (k ≤ 4) × (length zero ≡ 4) × (length one ≡ 4) × FourCosts levels index first t zero one k
 
 abbrev μ-loop : tie.MeasureT-loop
-μ-loop zero₀ one₀ t levels index first pattern k₀ zero one k = ?
+μ-loop zero₀ one₀ t levels index first pattern k₀ zero one k = 4 - k
 
--- src/four.rt:95:24
 shl-pattern : tie.Need-shl-pattern Inv-loop μ-loop
-shl-pattern c = ?
+shl-pattern c = search needs
 
--- src/four.rt:97:5
 loop-holds : tie.Need-loop-holds Inv-loop μ-loop
-loop-holds c = ?
+loop-holds c = (omega arith, c .good .0, c .good .1 .0, costs-none _ _ _ _ _ _)
 
--- src/four.rt:98:66
 mul-seat-level : tie.Need-mul-seat-level Inv-loop μ-loop
-mul-seat-level c = ?
+mul-seat-level c = search needs
 
--- src/four.rt:98:58
 add-seat-level : tie.Need-add-seat-level Inv-loop μ-loop
-add-seat-level c = ?
+add-seat-level c = search needs
 
--- src/four.rt:98:58
 add-seat-level-2 : tie.Need-add-seat-level-2 Inv-loop μ-loop
-add-seat-level-2 c = ?
+add-seat-level-2 c = search needs
 
--- src/four.rt:98:32
 seat-level-requires : tie.Need-seat-level-requires Inv-loop μ-loop
-seat-level-requires c κs = ?
+seat-level-requires c κs =
+    let s = c .before .before in
+    let own = later-seats (c .before .loop .k * 8) (suc (s .args .t)) (omega (arith, s .pre .0)) (s .pre .1) in
+    (omega (arith, own .within), own .held (s .args .t) (omega arith))
 
--- src/four.rt:98:13
 slot-costs-requires : tie.Need-slot-costs-requires Inv-loop μ-loop
-slot-costs-requires c κs = ?
+slot-costs-requires c κs =
+    let s = c .before .before .before in
+    let own = later-seats (c .before .before .loop .k * 8) (suc (s .args .t)) (omega (arith, s .pre .0, c .before .loop-test .taken)) (s .pre .1) in
+    rw (toZ-ofZ w32 (c .seat-level .result) (sfits-of (c .seat-level .ok)), c .seat-level .ensures) (own .ranged (s .args .t) (omega arith))
 
--- src/four.rt:99:20
 cast-zero : tie.Need-cast-zero Inv-loop μ-loop
-cast-zero c = ?
+cast-zero c = search needs
 
--- src/four.rt:99:19
 mul-zero : tie.Need-mul-zero Inv-loop μ-loop
-mul-zero c = ?
+mul-zero c = search needs
 
--- src/four.rt:99:9
 mul-zero-2 : tie.Need-mul-zero-2 Inv-loop μ-loop
-mul-zero-2 c = ?
+mul-zero-2 c = search needs
 
--- src/four.rt:99:9
 element-write-zero : tie.Need-element-write-zero Inv-loop μ-loop
-element-write-zero c = ?
+element-write-zero c = search needs
 
--- src/four.rt:100:19
 cast-one : tie.Need-cast-one Inv-loop μ-loop
-cast-one c = ?
+cast-one c = search needs
 
--- src/four.rt:100:18
 mul-one : tie.Need-mul-one Inv-loop μ-loop
-mul-one c = ?
+mul-one c = search needs
 
--- src/four.rt:100:18
 add-one : tie.Need-add-one Inv-loop μ-loop
-add-one c = ?
+add-one c =
+    let s = c .before .before .before .before .before .before in
+    rw (one-shifted (s .args .t) (omega (arith, s .pre .0))) (record { fits = omega (arith, pow-mono (s .pre .0), c .struct-known2 .given) })
 
--- src/four.rt:100:9
 mul-one-2 : tie.Need-mul-one-2 Inv-loop μ-loop
-mul-one-2 c = ?
+mul-one-2 c = search needs
 
--- src/four.rt:100:9
 element-write-one : tie.Need-element-write-one Inv-loop μ-loop
-element-write-one c = ?
+element-write-one c = search needs
 
--- src/four.rt:101:9
 add-k : tie.Need-add-k Inv-loop μ-loop
-add-k c = ?
+add-k c = search needs
 
--- src/four.rt:97:5
 loop-less : tie.Need-loop-less Inv-loop μ-loop
-loop-less c = ?
+loop-less c = search needs
 
--- src/four.rt:97:5
 loop-again : tie.Need-loop-again Inv-loop μ-loop
-loop-again c = ?
+loop-again c =
+    let s = c .before .before .before .before .before .before in
+    let l = c .before .before .before .before .before .loop in
+    let less = c .before .before .before .before .loop-test .taken in
+    let level = c .before .before .before .seat-level in
+    let costs = c .before .before .slot-costs .ensures in
+    let read = toZ-ofZ w32 (level .result) (sfits-of (level .ok)) ∙ level .ensures in
+    rw (one-shifted (s .args .t) (omega (arith, s .pre .0))) (
+      omega arith,
+      length-set (l .zero) _ _ ∙ l .inv .1,
+      length-set (l .one) _ _ ∙ l .inv .2,
+      costs-more _ _ _ (s .args .t) (l .zero) (l .one) less (l .inv .1) (l .inv .2) (rw (costs .0, read)) (rw (costs .1, read)) (l .inv .3),
+    )
 
--- src/four.rt:84:1
 returns : tie.Need-returns Inv-loop μ-loop
-returns c = ?
+returns c = let all : c .before .loop .k ≡ 4 = omega arith in rw all at (c .before .loop .inv .3)
 
 pub lane-costs-spec : {M : Type 1} → statement M
 lane-costs-spec =
