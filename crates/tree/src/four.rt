@@ -88,6 +88,7 @@ fn lane_costs(
     first: usize,
 )
     requires { ⌜ (t < 8) × Levelled (now levels) (now index) first 32 ⌝ }
+    requires { ⌜ (length (now zero) ≡ 4) × (length (now one) ≡ 4) ⌝ }
     ensures { λ _. ⌜ FourCosts (now (levels .entry)) (now (index .entry)) first t (now (zero .exit)) (now (one .exit)) 4 ⌝ }
 {
     let pattern: u64 = 1 << t;

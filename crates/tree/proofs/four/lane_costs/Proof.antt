@@ -24,7 +24,7 @@ shl-pattern : tie.Need-shl-pattern Inv-loop μ-loop
 shl-pattern c = search needs
 
 loop-holds : tie.Need-loop-holds Inv-loop μ-loop
-loop-holds c = (omega arith, c .good .0, c .good .1 .0, costs-none _ _ _ _ _ _)
+loop-holds c = (omega arith, c .pre .1 .0, c .pre .1 .1, costs-none _ _ _ _ _ _)
 
 mul-seat-level : tie.Need-mul-seat-level Inv-loop μ-loop
 mul-seat-level c = search needs
@@ -38,13 +38,13 @@ add-seat-level-2 c = search needs
 seat-level-requires : tie.Need-seat-level-requires Inv-loop μ-loop
 seat-level-requires c κs =
     let s = c .before .before in
-    let own = later-seats (c .before .loop .k * 8) (suc (s .args .t)) (omega (arith, s .pre .0)) (s .pre .1) in
+    let own = later-seats (c .before .loop .k * 8) (suc (s .args .t)) (omega (arith, s .pre .0 .0)) (s .pre .0 .1) in
     (omega (arith, own .within), own .held (s .args .t) (omega arith))
 
 slot-costs-requires : tie.Need-slot-costs-requires Inv-loop μ-loop
 slot-costs-requires c κs =
     let s = c .before .before .before in
-    let own = later-seats (c .before .before .loop .k * 8) (suc (s .args .t)) (omega (arith, s .pre .0, c .before .loop-test .taken)) (s .pre .1) in
+    let own = later-seats (c .before .before .loop .k * 8) (suc (s .args .t)) (omega (arith, s .pre .0 .0, c .before .loop-test .taken)) (s .pre .0 .1) in
     rw (toZ-ofZ w32 (c .seat-level .result) (sfits-of (c .seat-level .ok)), c .seat-level .ensures) (own .ranged (s .args .t) (omega arith))
 
 cast-zero : tie.Need-cast-zero Inv-loop μ-loop
@@ -68,7 +68,7 @@ mul-one c = search needs
 add-one : tie.Need-add-one Inv-loop μ-loop
 add-one c =
     let s = c .before .before .before .before .before .before in
-    rw (one-shifted (s .args .t) (omega (arith, s .pre .0))) (record { fits = omega (arith, pow-mono (s .pre .0), c .struct-known2 .given) })
+    rw (one-shifted (s .args .t) (omega (arith, s .pre .0 .0))) (record { fits = omega (arith, pow-mono (s .pre .0 .0), c .struct-known2 .given) })
 
 mul-one-2 : tie.Need-mul-one-2 Inv-loop μ-loop
 mul-one-2 c = search needs
@@ -90,7 +90,7 @@ loop-again c =
     let level = c .before .before .before .seat-level in
     let costs = c .before .before .slot-costs .ensures in
     let read = toZ-ofZ w32 (level .result) (sfits-of (level .ok)) ∙ level .ensures in
-    rw (one-shifted (s .args .t) (omega (arith, s .pre .0))) (
+    rw (one-shifted (s .args .t) (omega (arith, s .pre .0 .0))) (
       omega arith,
       length-set (l .zero) _ _ ∙ l .inv .1,
       length-set (l .one) _ _ ∙ l .inv .2,
