@@ -14,18 +14,9 @@ use Rattle.laws.specs.GreatestDistance.{slot-greatest}
 use Rattle.laws.specs.SortedRows.{rowOf, row-length, row-rising}
 use Rattle.tree.specs.Costs.{seatCost, seatRow, Levelled, RowsRight}
 use Rattle.tree.specs.Lanes.{lane, Lanes, laneDoubled, Merged, FourCosts, FourRows}
-use Rattle.tree.proofs.Building.{entry-small}
+use Rattle.tree.proofs.Building.{later-seats, entry-small}
 use Rattle.tree.proofs.Mirrors.{row-mirrored}
 use Rattle.tree.proofs.LaneTurns.{by-four, lane-at, lane-length}
-
--- some of the seats, from one on
-pub later-seats : {levels : List ℤ} {index : List ℕ} {first count : ℕ} (k size : ℕ) → k + size ≤ count → Levelled levels index first count
-    → Levelled levels index (first + k) size
-later-seats {first = first} k size l h = record {
-  within = omega (arith, h .within);
-  held = λ t b. let e : first + k + t ≡ first + (k + t) = omega arith in rw e (h .held (k + t) (omega arith));
-  ranged = λ t b. let e : first + k + t ≡ first + (k + t) = omega arith in rw e (h .ranged (k + t) (omega arith));
-}
 
 -- a list's lane is a row where its entries are
 lane-is : (l : List ℕ) (k m : ℕ) (row : List ℕ) → k < 4 → m ≤ 256 → length l ≡ 1024 → length row ≡ m

@@ -10,7 +10,7 @@ use lib.ListN.{length, getD, take, drop, set, replicate, length-set, length-appe
 use lib.Seq.{getD-set-same, getD-set-other, getD-append-add, getD-take, length-take-le}
 use Rattle.laws.specs.Bits.{power-shifted}
 use Rattle.laws.specs.SortedRows.{rowOf, row-length}
-use Rattle.tree.proofs.Building.{by-size, size-small}
+use Rattle.tree.proofs.Building.{by-size, size-small, later-seats}
 use Rattle.tree.specs.Costs.{GroupSize, Levelled, seatCost, RowsRight}
 
 -- the place of group k among groups of a size
@@ -34,11 +34,7 @@ row-entries {size} g = power-shifted 64 size (omega (arith, size-small g))
 -- the seats of group k, among those of all groups
 pub group-seats : {levels : List ℤ} {index : List ℕ} {count : ℕ} (first size : ℕ) → first + size ≤ count → Levelled levels index 0 count
     → Levelled levels index first size
-group-seats first size l h = record {
-  within = omega (arith, h .within);
-  held = λ t b. rw (zero-add (first + t)) at (h .held (first + t) (omega arith));
-  ranged = λ t b. rw (zero-add (first + t)) at (h .ranged (first + t) (omega arith));
-}
+group-seats first size l h = rw (zero-add first) at (later-seats first size l h)
 
 -- a list with n elements from index `at` on replaced by a row
 abbrev put : List ℕ → List ℕ → ℕ → ℕ → List ℕ

@@ -9,7 +9,8 @@ use mir.Syntax.{w32}
 use mir.ValLaws.{toZ-ofZ}
 use Rattle.word.proofs.Shifts.{one-shifted}
 use Rattle.tree.specs.Lanes.{FourCosts}
-use Rattle.tree.proofs.LaneRows.{later-seats, costs-none, costs-more}
+use Rattle.tree.proofs.Building.{later-seats}
+use Rattle.tree.proofs.LaneRows.{costs-none, costs-more}
 use Rattle.tree.proofs.four.lane_costs.Statement.{statement}
 use Rattle.tree.proofs.four.lane_costs.Tie as tie
 
