@@ -1,24 +1,29 @@
+-- `tree::row::rows` meets its contract.
+use Prim.Native.Nat.{_*_, _/_, _%_}
+use mathlib.Core.Path.{_≡_}
+use native.Mathlib.Omega.{arith}
 use borrow.Author.Needs.{needs}
+use borrow.Author.Tests.{eqb-true}
 use Rattle.tree.proofs.row.rows.Statement.{statement}
 use Rattle.tree.proofs.row.rows.Tie as tie
-use Rattle.tree.proofs.row.rows.Reads as reads
-use Rattle.tree.proofs.row.rows.Lts as lts
-use Rattle.tree.proofs.four.fours.Reads as fours-reads
-use Rattle.tree.proofs.row.singles.Reads as singles-reads
 
--- src/row.rt:186:9
 fours-requires : tie.Need-fours-requires
-fours-requires c κs = ?
+fours-requires c κs =
+    let s = c .before .before in
+    let whole = eqb-true (s .args .groups % 4) 0 (c .if2 .taken) in
+    let seats : s .args .groups * 8 ≡ s .args .groups / 4 * 32 = omega arith in
+    rw (c .before .if1 .taken, seats) at (s .pre .1)
 
--- src/row.rt:186:9
 returns : tie.Need-returns
-returns c = ?
+returns c =
+    let groups = c .before .before .before .args .groups in
+    let whole = eqb-true (groups % 4) 0 (c .before .if2 .taken) in
+    let all : groups / 4 * 4 ≡ groups = omega arith in
+    rw (c .before .before .if1 .taken) (rw all at (c .fours .ensures))
 
--- src/row.rt:188:5
 singles-requires : tie.Need-singles-requires
 singles-requires c κs = search needs
 
--- src/row.rt:176:1
 returns-2 : tie.Need-returns-2
 returns-2 c = search needs
 
