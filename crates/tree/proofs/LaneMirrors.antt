@@ -1,6 +1,6 @@
 -- The upper half of each lane is what is left of its lower half to one sum: store by store, and lane by lane.
-use Prim.Native.Nat.{ℕ, suc, _+_, _*_, _-_, _^_, _≤_, _<_}
-use mathlib.Core.Path.{_≡_, refl, sym, ap, ap₂, _∙_}
+use Prim.Native.Nat.{ℕ, _+_, _*_, _-_, _^_, _≤_, _<_}
+use mathlib.Core.Path.{_≡_, refl, ap, ap₂, _∙_}
 use mathlib.Core.Logic.{_⊎_, inl, inr, ⊎-elim}
 use mathlib.Core.List.{List}
 use native.Mathlib.Nat.{add-zero}
@@ -57,7 +57,8 @@ module _ {from : List ℕ} {m : ℕ} {zero one : List ℕ} (lanes : Lanes from m
   sum-of : (i : ℕ) → i < m → getD (laneDoubled from m zero one k) i 0 + getD (laneDoubled from m zero one k) (m + m - 1 - i) 0 ≡ laneSum from m zero one k
   sum-of i l =
       let some = lanes .some in
-      doubled-sum (lane from k m) (getD zero k 0) (getD one k 0) (lanes .rising k h) m (lane-length from k m h (omega (arith, lanes .room)) (lanes .long)) (lanes .mirrored k h) i l
+      let long = lane-length from k m h (omega (arith, lanes .room)) (lanes .long) in
+      doubled-sum (lane from k m) (getD zero k 0) (getD one k 0) (lanes .rising k h) m long (lanes .mirrored k h) i l
       ∙ ap₂ (λ (u v : ℕ). u + v + (getD zero k 0 + getD one k 0)) (lane-at from k m 0 some ∙ ap (λ (u : ℕ). getD from u 0) (add-zero (k * 256)))
       (lane-at from k m (m - 1) (omega arith))
 

@@ -9,11 +9,11 @@ use lib.IntN.{ℤ}
 use lib.ListN.{length, getD, drop, set, replicate, length-set, getD-replicate}
 use lib.Pow.{pow-pos, pow-mono}
 use lib.Seq.{getD-drop, getD-set-same, getD-set-other, ext-getD}
-use Rattle.rules.specs.Level.{limit, inRange, levelAt}
+use Rattle.rules.specs.Level.{limit}
 use Rattle.laws.specs.GreatestDistance.{slot-greatest}
 use Rattle.laws.specs.SortedRows.{rowOf, row-length, row-rising}
-use Rattle.tree.specs.Costs.{seatCost, seatRow, Levelled, RowsRight}
-use Rattle.tree.specs.Lanes.{lane, Lanes, laneDoubled, Merged, FourCosts, FourRows}
+use Rattle.tree.specs.Costs.{seatCost, Levelled, RowsRight}
+use Rattle.tree.specs.Lanes.{lane, Lanes, Merged, FourCosts, FourRows}
 use Rattle.tree.proofs.Building.{later-seats, entry-small}
 use Rattle.tree.proofs.Mirrors.{row-mirrored}
 use Rattle.tree.proofs.LaneTurns.{by-four, lane-at, lane-length}

@@ -122,13 +122,7 @@ fn add_slots(
 }
 
 // The rows of the four groups whose first seat is given. Two slots a turn: from the row to the spare one and back.
-fn fill_lanes(
-    row: &mut [u64],
-    spare: &mut [u64],
-    levels: &[i32],
-    index: &[usize; 64],
-    first: usize,
-)
+fn fill_lanes(row: &mut [u64], spare: &mut [u64], levels: &[i32], index: &[usize; 64], first: usize)
     requires { ⌜ Levelled (now levels) (now index) first 32 ⌝ }
     requires { ⌜ (length (now row) ≡ 1024) × (length (now spare) ≡ 1024) ⌝ }
     ensures { λ _. ⌜ FourRows (now (levels .entry)) (now (index .entry)) first 8 (now (row .exit)) ⌝ }

@@ -141,12 +141,7 @@ fn fill_at(
 }
 
 // The rows of all groups, one after the other.
-fn singles(
-    levels: &[i32],
-    index: &[usize; 64],
-    groups: usize,
-    size: usize,
-) -> [[u64; 1024]; 2]
+fn singles(levels: &[i32], index: &[usize; 64], groups: usize, size: usize) -> [[u64; 1024]; 2]
     requires { ⌜ GroupSize size × Levelled (now levels) (now index) 0 (groups * size) ⌝ }
     ensures { λ r. ⌜ RowsRight (now (levels .entry)) (now (index .entry)) groups size r ⌝ }
 {

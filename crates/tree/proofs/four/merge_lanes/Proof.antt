@@ -15,7 +15,6 @@ abbrev μ-loop : tie.MeasureT-loop
 
 loop-holds : tie.Need-loop-holds Inv-loop μ-loop
 loop-holds c = record {
-  met = omega arith;
   long = c .before .before .pre .1;
   lane0 = turning-none _ _ _ _ 0 _;
   lane1 = turning-none _ _ _ _ 1 _;
@@ -31,8 +30,9 @@ element-copy-out-turn-2 c = search needs
 
 turn-requires : tie.Need-turn-requires Inv-loop μ-loop
 turn-requires c κs =
-    let l = c .before .before .before .before .loop in
-    turn-ready (c .before .before .before .before .before .before .before .pre .0) {k = 0} (omega arith) (c .before .before .before .loop-test .taken) (l .a) (l .inv .lane0 .some) (l .inv .long)
+    let test = c .before .before .before in
+    let l = test .before .loop in
+    turn-ready (test .before .before .before .before .pre .0) (test .loop-test .taken) {k = 0} (omega arith) (l .a) (l .inv .lane0 .some) (l .inv .long)
 
 element-copy-out-turn-3 : tie.Need-element-copy-out-turn-3 Inv-loop μ-loop
 element-copy-out-turn-3 c = search needs
@@ -42,8 +42,10 @@ element-copy-out-turn-4 c = search needs
 
 turn-requires-2 : tie.Need-turn-requires-2 Inv-loop μ-loop
 turn-requires-2 c κs =
-    let l = c .before .before .before .before .before .before .before .before .before .before .loop in
-    turn-ready (c .before .before .before .before .before .before .before .before .before .before .before .before .before .pre .0) {k = 1} (omega arith) (c .before .before .before .before .before .before .before .before .before .loop-test .taken) (l .b) (l .inv .lane1 .some) (c .before .before .before .before .before .turn .kept .1 .0 ∙ l .inv .long)
+    let after0 = c .before .before .before .before .before in
+    let test = after0 .before .before .before .before in
+    let l = test .before .loop in
+    turn-ready (test .before .before .before .before .pre .0) (test .loop-test .taken) {k = 1} (omega arith) (l .b) (l .inv .lane1 .some) (after0 .turn .kept .1 .0 ∙ l .inv .long)
 
 element-copy-out-turn-5 : tie.Need-element-copy-out-turn-5 Inv-loop μ-loop
 element-copy-out-turn-5 c = search needs
@@ -53,8 +55,11 @@ element-copy-out-turn-6 c = search needs
 
 turn-requires-3 : tie.Need-turn-requires-3 Inv-loop μ-loop
 turn-requires-3 c κs =
-    let l = c .before .before .before .before .before .before .before .before .before .before .before .before .before .before .before .before .loop in
-    turn-ready (c .before .before .before .before .before .before .before .before .before .before .before .before .before .before .before .before .before .before .before .pre .0) {k = 2} (omega arith) (c .before .before .before .before .before .before .before .before .before .before .before .before .before .before .before .loop-test .taken) (l .c) (l .inv .lane2 .some) (c .before .before .before .before .before .turn2 .kept .1 .0 ∙ c .before .before .before .before .before .before .before .before .before .before .before .turn .kept .1 .0 ∙ l .inv .long)
+    let after1 = c .before .before .before .before .before in
+    let after0 = after1 .before .before .before .before .before .before in
+    let test = after0 .before .before .before .before in
+    let l = test .before .loop in
+    turn-ready (test .before .before .before .before .pre .0) (test .loop-test .taken) {k = 2} (omega arith) (l .c) (l .inv .lane2 .some) (after1 .turn2 .kept .1 .0 ∙ after0 .turn .kept .1 .0 ∙ l .inv .long)
 
 element-copy-out-turn-7 : tie.Need-element-copy-out-turn-7 Inv-loop μ-loop
 element-copy-out-turn-7 c = search needs
@@ -64,29 +69,34 @@ element-copy-out-turn-8 c = search needs
 
 turn-requires-4 : tie.Need-turn-requires-4 Inv-loop μ-loop
 turn-requires-4 c κs =
-    let l = c .before .before .before .before .before .before .before .before .before .before .before .before .before .before .before .before .before .before .before .before .before .before .loop in
-    turn-ready (c .before .before .before .before .before .before .before .before .before .before .before .before .before .before .before .before .before .before .before .before .before .before .before .before .before .pre .0) {k = 3} (omega arith) (c .before .before .before .before .before .before .before .before .before .before .before .before .before .before .before .before .before .before .before .before .before .loop-test .taken) (l .d) (l .inv .lane3 .some) (c .before .before .before .before .before .turn3 .kept .1 .0 ∙ c .before .before .before .before .before .before .before .before .before .before .before .turn2 .kept .1 .0 ∙ c .before .before .before .before .before .before .before .before .before .before .before .before .before .before .before .before .before .turn .kept .1 .0 ∙ l .inv .long)
+    let after2 = c .before .before .before .before .before in
+    let after1 = after2 .before .before .before .before .before .before in
+    let after0 = after1 .before .before .before .before .before .before in
+    let test = after0 .before .before .before .before in
+    let l = test .before .loop in
+    turn-ready (test .before .before .before .before .pre .0) (test .loop-test .taken) {k = 3} (omega arith) (l .d) (l .inv .lane3 .some) (after2 .turn3 .kept .1 .0 ∙ after1 .turn2 .kept .1 .0 ∙ after0 .turn .kept .1 .0 ∙ l .inv .long)
 
 add-t : tie.Need-add-t Inv-loop μ-loop
-add-t c = record { fits = omega (arith, c .before .before .before .before .before .before .before .before .before .before .before .before .before .before .before .before .before .before .before .before .before .before .before .before .loop-test .taken, c .before .before .before .before .before .before .before .before .before .before .before .before .before .before .before .before .before .before .before .before .before .before .before .before .before .before .before .before .pre .0 .room) }
+add-t c = let test = c .before .before .before .before .before .before .before .before .before .before .before .before .before .before .before .before .before .before .before .before .before .before .before .before in record { fits = omega (arith, test .loop-test .taken, test .before .before .before .before .pre .0 .room) }
 
 loop-less : tie.Need-loop-less Inv-loop μ-loop
 loop-less c = search needs
 
 loop-again : tie.Need-loop-again Inv-loop μ-loop
 loop-again c =
-    let l = c .before .before .before .before .before .before .before .before .before .before .before .before .before .before .before .before .before .before .before .before .before .before .before .before .before .loop in
-    let long1 = c .before .before .before .before .before .before .before .before .before .before .before .before .before .before .before .before .before .before .before .before .turn .kept .1 .0 ∙ l .inv .long in
-    let long2 = c .before .before .before .before .before .before .before .before .before .before .before .before .before .before .turn2 .kept .1 .0 ∙ long1 in
-    let long3 = c .before .before .before .before .before .before .before .before .turn3 .kept .1 .0 ∙ long2 in
-    let long4 = c .before .before .turn4 .kept .1 .0 ∙ long3 in
-    step-more (c .before .before .before .before .before .before .before .before .before .before .before .before .before .before .before .before .before .before .before .before .before .before .before .before .before .before .before .before .pre .0) (l .inv) (c .before .before .before .before .before .before .before .before .before .before .before .before .before .before .before .before .before .before .before .before .before .before .before .before .loop-test .taken) (c .before .before .before .before .before .before .before .before .before .before .before .before .before .before .before .before .before .before .before .before .turn .ensures) (c .before .before .before .before .before .before .before .before .before .before .before .before .before .before .turn2 .ensures) (c .before .before .before .before .before .before .before .before .turn3 .ensures) (c .before .before .turn4 .ensures) long1 long2 long3 long4
+    let after3 = c .before .before in
+    let after2 = after3 .before .before .before .before .before .before in
+    let after1 = after2 .before .before .before .before .before .before in
+    let after0 = after1 .before .before .before .before .before .before in
+    let test = after0 .before .before .before .before in
+    step-more (test .before .before .before .before .pre .0) (test .loop-test .taken) (test .before .loop .inv) (after0 .turn .ensures) (after1 .turn2 .ensures) (after2 .turn3 .ensures)
+    (after3 .turn4 .ensures)
 
 same-length : tie.Need-same-length Inv-loop μ-loop
 same-length c = search needs
 
 returns : tie.Need-returns Inv-loop μ-loop
-returns c = step-all (c .before .before .before .before .pre .0) (c .before .loop .inv) (c .loop-test .left)
+returns c = step-all (c .before .loop .inv) (c .loop-test .left)
 
 pub merge-lanes-spec : {M : Type 1} → statement M
 merge-lanes-spec =
