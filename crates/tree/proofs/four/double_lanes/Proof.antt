@@ -17,7 +17,9 @@ merge-lanes-requires : tie.Need-merge-lanes-requires Inv-loop μ-loop
 merge-lanes-requires c κs = c .before .before .before .pre
 
 loop-holds : tie.Need-loop-holds Inv-loop μ-loop
-loop-holds c = let m = c .before .before .merge-lanes in (omega arith, mirroring-none (m .kept .1 .0 ∙ c .before .before .before .before .before .before .pre .1) (m .ensures))
+loop-holds c =
+    let merge = c .before .before .merge-lanes in
+    (omega arith, mirroring-none (merge .kept .1 .0 ∙ c .before .before .before .before .before .before .pre .1) (merge .ensures))
 
 mul-start : tie.Need-mul-start Inv-loop μ-loop
 mul-start c = search needs
@@ -41,7 +43,7 @@ shared-slice-read-both-2 : tie.Need-shared-slice-read-both-2 Inv-loop μ-loop
 shared-slice-read-both-2 c = search needs
 
 add-both-2 : tie.Need-add-both-2 Inv-loop μ-loop
-add-both-2 c = record { fits = omega (arith, sum-small (c .before .before .before .before .before .before .before .before .before .before .pre .0) (c .before .before .loop-test .taken)) }
+add-both-2 c = let test = c .before .before in record { fits = omega (arith, sum-small (test .before .before .before .before .before .before .before .before .pre .0) (test .loop-test .taken)) }
 
 mul-both-3 : tie.Need-mul-both-3 Inv-loop μ-loop
 mul-both-3 c = search needs
@@ -56,14 +58,17 @@ element-copy-out-both-2 : tie.Need-element-copy-out-both-2 Inv-loop μ-loop
 element-copy-out-both-2 c = search needs
 
 add-both-3 : tie.Need-add-both-3 Inv-loop μ-loop
-add-both-3 c = record { fits = omega (arith, sum-small (c .before .before .before .before .before .before .before .before .before .before .before .before .pre .0) (c .before .before .before .before .loop-test .taken)) }
+add-both-3 c = let test = c .before .before .before .before in record { fits = omega (arith, sum-small (test .before .before .before .before .before .before .before .before .pre .0) (test .loop-test .taken)) }
 
 add-both-4 : tie.Need-add-both-4 Inv-loop μ-loop
-add-both-4 c = record { fits = omega (arith, sum-small (c .before .before .before .before .before .before .before .before .before .before .before .before .pre .0) (c .before .before .before .before .loop-test .taken)) }
+add-both-4 c = let test = c .before .before .before .before in record { fits = omega (arith, sum-small (test .before .before .before .before .before .before .before .before .pre .0) (test .loop-test .taken)) }
 
 mirror-requires : tie.Need-mirror-requires Inv-loop μ-loop
-mirror-requires c κs = let l = c .before .before .before .before .before .before .loop in let less = c .before .before .before .before .before .loop-test .taken in let g = c .before .before .before .before .before .before .before .before .before .before .before .before .before .pre .0 in
-    (omega (arith, l .inv .1 .long, less, g .room), sum-fits g less (l .inv .1))
+mirror-requires c κs =
+    let test = c .before .before .before .before .before in
+    let l = test .before .loop in
+    let lanes = test .before .before .before .before .before .before .before .before .pre .0 in
+    (omega (arith, l .inv .1 .long, test .loop-test .taken, lanes .room), sum-fits lanes (test .loop-test .taken) (l .inv .1))
 
 add-k : tie.Need-add-k Inv-loop μ-loop
 add-k c = search needs
@@ -72,8 +77,11 @@ loop-less : tie.Need-loop-less Inv-loop μ-loop
 loop-less c = search needs
 
 loop-again : tie.Need-loop-again Inv-loop μ-loop
-loop-again c = let l = c .before .before .before .before .before .before .before .before .before .loop in let less = c .before .before .before .before .before .before .before .before .loop-test .taken in let m = c .before .before .mirror in
-    (omega arith, mirroring-more (c .before .before .before .before .before .before .before .before .before .before .before .before .before .before .before .before .pre .0) less (l .inv .1) (m .kept .0 ∙ l .inv .1 .long) (m .ensures))
+loop-again c =
+    let test = c .before .before .before .before .before .before .before .before in
+    let l = test .before .loop in
+    let mirror = c .before .before .mirror in
+    (omega arith, mirroring-more (test .before .before .before .before .before .before .before .before .pre .0) (test .loop-test .taken) (l .inv .1) (mirror .kept .0 ∙ l .inv .1 .long) (mirror .ensures))
 
 same-length : tie.Need-same-length Inv-loop μ-loop
 same-length c = search needs

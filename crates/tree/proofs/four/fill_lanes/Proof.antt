@@ -31,8 +31,13 @@ slice-write-row-4 c = rw (length-set, length-set, length-set) (omega (arith, c .
 
 loop-holds : tie.Need-loop-holds Inv-loop μ-loop
 loop-holds c =
-    let s = c .before .before in
-    (omega arith, refl, rw (length-set, length-set, length-set, length-set) (s .pre .1 .0), s .pre .1 .1, rows-none _ _ (s .args .first) (s .args .row .now) (s .pre .1 .0))
+    let s = c .before .before in (
+      omega arith,
+      refl,
+      rw (length-set, length-set, length-set, length-set) (s .pre .1 .0),
+      s .pre .1 .1,
+      rows-none _ _ (s .args .first) (s .args .row .now) (s .pre .1 .0),
+    )
 
 add-slots-requires : tie.Need-add-slots-requires Inv-loop μ-loop
 add-slots-requires c κs =
@@ -44,9 +49,10 @@ add-add-slots c = search needs
 
 add-slots-requires-2 : tie.Need-add-slots-requires-2 Inv-loop μ-loop
 add-slots-requires-2 c κs =
-    let l = c .before .before .before .before .before .before .before .before .loop in
+    let test = c .before .before .before .before .before .before .before in
+    let l = test .before .loop in
     let step = c .before .before .before .before .add-slots in (
-      (omega (arith, l .inv .1, c .before .before .before .before .before .before .before .loop-test .taken), c .before .before .before .before .before .before .before .before .before .before .before .pre .0),
+      (omega (arith, l .inv .1, test .loop-test .taken), test .before .before .before .before .pre .0),
       ((step .kept .1 .0 ∙ l .inv .3, l .inv .2), rw (add-one (l .t)) (step .ensures)),
     )
 
@@ -58,9 +64,10 @@ loop-less c = search needs
 
 loop-again : tie.Need-loop-again Inv-loop μ-loop
 loop-again c =
-    let l = c .before .before .before .before .before .before .before .before .before .before .before .loop in
+    let test = c .before .before .before .before .before .before .before .before .before .before in
+    let l = test .before .loop in
     let next : l .t + 2 ≡ suc (l .t + 1) = omega arith in (
-      omega (arith, l .inv .1, c .before .before .before .before .before .before .before .before .before .before .loop-test .taken),
+      omega (arith, l .inv .1, test .loop-test .taken),
       omega (arith, l .inv .1),
       c .before .before .add-slots2 .kept .1 .0 ∙ l .inv .2,
       c .before .before .before .before .before .before .before .add-slots .kept .1 .0 ∙ l .inv .3,
@@ -74,7 +81,9 @@ same-length-2 : tie.Need-same-length-2 Inv-loop μ-loop
 same-length-2 c = c .before .loop .inv .3 ∙ sym (c .before .before .before .before .pre .1 .1)
 
 returns : tie.Need-returns Inv-loop μ-loop
-returns c = let all : c .before .loop .t ≡ 8 = omega arith in rw all at (c .before .loop .inv .4)
+returns c =
+    let all : c .before .loop .t ≡ 8 = omega arith in
+    rw all at (c .before .loop .inv .4)
 
 pub fill-lanes-spec : {M : Type 1} → statement M
 fill-lanes-spec =

@@ -57,7 +57,9 @@ loop-again c =
     )
 
 returns : tie.Need-returns Inv-loop μ-loop
-returns c = let all : c .before .loop .q ≡ c .before .before .args .count = omega arith in rw all at (fours-all (c .before .loop .inv .2))
+returns c =
+    let all : c .before .loop .q ≡ c .before .before .args .count = omega arith in
+    rw all at (fours-all (c .before .loop .inv .2))
 
 pub fours-spec : {M : Type 1} → statement M
 fours-spec =

@@ -99,7 +99,9 @@ loop-again c =
     )
 
 returns : tie.Need-returns Inv-loop μ-loop
-returns c = let all : c .before .loop .k ≡ 4 = omega arith in rw all at (c .before .loop .inv .3)
+returns c =
+    let all : c .before .loop .k ≡ 4 = omega arith in
+    rw all at (c .before .loop .inv .3)
 
 pub lane-costs-spec : {M : Type 1} → statement M
 lane-costs-spec =

@@ -28,7 +28,9 @@ slice-read-to : tie.Need-slice-read-to Inv-loop μ-loop
 slice-read-to c = search needs
 
 sub-to : tie.Need-sub-to Inv-loop μ-loop
-sub-to c = let l = c .before .before .loop in let less = c .before .loop-test .taken in
+sub-to c =
+    let l = c .before .before .loop in
+    let less = c .before .loop-test .taken in
     rw (lower-same (l .inv .2) less) (c .before .before .before .pre .1 (l .t) less)
 
 add-to-2 : tie.Need-add-to-2 Inv-loop μ-loop
@@ -56,14 +58,21 @@ loop-less : tie.Need-loop-less Inv-loop μ-loop
 loop-less c = search needs
 
 loop-again : tie.Need-loop-again Inv-loop μ-loop
-loop-again c = let l = c .before .before .loop in
-    (omega arith, length-set (l .to) _ _ ∙ l .inv .1, completed-more (l .inv .2) (c .before .loop-test .taken) (omega (arith, l .inv .1, c .before .before .before .pre .0)))
+loop-again c =
+    let l = c .before .before .loop in
+    let room = c .before .before .before .pre .0 in (
+      omega arith,
+      length-set (l .to) _ _ ∙ l .inv .1,
+      completed-more (l .inv .2) (c .before .loop-test .taken) (omega (arith, l .inv .1)),
+    )
 
 same-length : tie.Need-same-length Inv-loop μ-loop
 same-length c = search needs
 
 returns : tie.Need-returns Inv-loop μ-loop
-returns c = let all : c .before .loop .t ≡ c .before .before .args .m = omega arith in rw all at (c .before .loop .inv .2)
+returns c =
+    let all : c .before .loop .t ≡ c .before .before .args .m = omega arith in
+    rw all at (c .before .loop .inv .2)
 
 pub mirror-spec : {M : Type 1} → statement M
 mirror-spec =
