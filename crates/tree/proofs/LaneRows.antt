@@ -83,8 +83,8 @@ module _ (levels : List ℤ) (index : List ℕ) (first : ℕ) where
           (keeps l₃ 512 768 (omega (arith, long₃)) (getD-set-same l₂ 512 0 0 (omega (arith, long₂))))
           (getD-set-same l₃ 768 0 0 (omega (arith, long₃)))
 
-  module _ (t : ℕ) (s : t < 8) (seats : Levelled levels index first 32) (from : List ℕ) (long : length from ≡ 1024) (rows : FourRows levels index first t from)
-      (zero one : List ℕ) (costs : FourCosts levels index first t zero one 4) where
+  module _ (t : ℕ) (s : t < 8) (seats : Levelled levels index first 32) (from : List ℕ) (long : length from ≡ 1024)
+      (rows : FourRows levels index first t from) (zero one : List ℕ) (costs : FourCosts levels index first t zero one 4) where
     room : 2 ^ t + 2 ^ t ≤ 256
     room = let p : 2 ^ suc t ≤ 2 ^ 8 = pow-mono s in omega (arith, two-pow-succ t)
 

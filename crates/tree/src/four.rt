@@ -1,5 +1,6 @@
-// Four rows side by side. Merging a row is one chain of steps, each of which waits for the one before; four rows of groups
-// with 8 slots, merged in step, go as fast as one. A list of 1024 entries has four lanes of 256, one for each of four groups.
+// Four rows side by side. Merging a row is one chain of steps, each of which waits for the one before. The rows of four groups
+// with 8 slots are merged in step, so that a step of one need not wait for those of the others. A list of 1024 entries has
+// four lanes of 256, one for each group.
 ghost use mathlib.Core.Path.{_≡_};
 ghost use Prim.Native.Nat.{ℕ, suc, _+_, _*_, _-_, _^_, _<_, _≤_};
 ghost use lib.ListN.{length, getD};

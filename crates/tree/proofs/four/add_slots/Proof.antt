@@ -28,7 +28,9 @@ returns : tie.Need-returns
 returns c =
     let s = c .before .before .before .before .before .before .before .before .before .before .before in
     let d = c .before .before .double-lanes in
-    rows-more _ _ (s .args .first) (s .args .t) (s .pre .0 .0) (s .pre .0 .1) _ (s .pre .1 .0 .0) (s .pre .1 .1) _ _ (c .before .before .before .before .before .before .lane-costs .ensures) _
+    rows-more _ _ (s .args .first) (s .args .t) (s .pre .0 .0) (s .pre .0 .1) _ (s .pre .1 .0 .0) (s .pre .1 .1) _ _
+    (c .before .before .before .before .before .before .lane-costs .ensures)
+    _
     (d .kept .1 .0 ∙ s .pre .1 .0 .1)
     (rw (one-shifted (s .args .t) (omega (arith, s .pre .0 .0))) at (d .ensures))
 

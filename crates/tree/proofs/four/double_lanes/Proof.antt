@@ -43,7 +43,9 @@ shared-slice-read-both-2 : tie.Need-shared-slice-read-both-2 Inv-loop μ-loop
 shared-slice-read-both-2 c = search needs
 
 add-both-2 : tie.Need-add-both-2 Inv-loop μ-loop
-add-both-2 c = let test = c .before .before in record { fits = omega (arith, sum-small (test .before .before .before .before .before .before .before .before .pre .0) (test .loop-test .taken)) }
+add-both-2 c =
+    let test = c .before .before in
+    record { fits = omega (arith, sum-small (test .before .before .before .before .before .before .before .before .pre .0) (test .loop-test .taken)) }
 
 mul-both-3 : tie.Need-mul-both-3 Inv-loop μ-loop
 mul-both-3 c = search needs
@@ -58,10 +60,14 @@ element-copy-out-both-2 : tie.Need-element-copy-out-both-2 Inv-loop μ-loop
 element-copy-out-both-2 c = search needs
 
 add-both-3 : tie.Need-add-both-3 Inv-loop μ-loop
-add-both-3 c = let test = c .before .before .before .before in record { fits = omega (arith, sum-small (test .before .before .before .before .before .before .before .before .pre .0) (test .loop-test .taken)) }
+add-both-3 c =
+    let test = c .before .before .before .before in
+    record { fits = omega (arith, sum-small (test .before .before .before .before .before .before .before .before .pre .0) (test .loop-test .taken)) }
 
 add-both-4 : tie.Need-add-both-4 Inv-loop μ-loop
-add-both-4 c = let test = c .before .before .before .before in record { fits = omega (arith, sum-small (test .before .before .before .before .before .before .before .before .pre .0) (test .loop-test .taken)) }
+add-both-4 c =
+    let test = c .before .before .before .before in
+    record { fits = omega (arith, sum-small (test .before .before .before .before .before .before .before .before .pre .0) (test .loop-test .taken)) }
 
 mirror-requires : tie.Need-mirror-requires Inv-loop μ-loop
 mirror-requires c κs =
@@ -81,7 +87,8 @@ loop-again c =
     let test = c .before .before .before .before .before .before .before .before in
     let l = test .before .loop in
     let mirror = c .before .before .mirror in
-    (omega arith, mirroring-more (test .before .before .before .before .before .before .before .before .pre .0) (test .loop-test .taken) (l .inv .1) (mirror .kept .0 ∙ l .inv .1 .long) (mirror .ensures))
+    let lanes = test .before .before .before .before .before .before .before .before .pre .0 in
+    (omega arith, mirroring-more lanes (test .loop-test .taken) (l .inv .1) (mirror .kept .0 ∙ l .inv .1 .long) (mirror .ensures))
 
 same-length : tie.Need-same-length Inv-loop μ-loop
 same-length c = search needs

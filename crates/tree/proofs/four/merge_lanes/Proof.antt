@@ -45,7 +45,8 @@ turn-requires-2 c κs =
     let after0 = c .before .before .before .before .before in
     let test = after0 .before .before .before .before in
     let l = test .before .loop in
-    turn-ready (test .before .before .before .before .pre .0) (test .loop-test .taken) {k = 1} (omega arith) (l .b) (l .inv .lane1 .some) (after0 .turn .kept .1 .0 ∙ l .inv .long)
+    turn-ready (test .before .before .before .before .pre .0) (test .loop-test .taken) {k = 1} (omega arith) (l .b) (l .inv .lane1 .some)
+    (after0 .turn .kept .1 .0 ∙ l .inv .long)
 
 element-copy-out-turn-5 : tie.Need-element-copy-out-turn-5 Inv-loop μ-loop
 element-copy-out-turn-5 c = search needs
@@ -59,7 +60,8 @@ turn-requires-3 c κs =
     let after0 = after1 .before .before .before .before .before .before in
     let test = after0 .before .before .before .before in
     let l = test .before .loop in
-    turn-ready (test .before .before .before .before .pre .0) (test .loop-test .taken) {k = 2} (omega arith) (l .c) (l .inv .lane2 .some) (after1 .turn2 .kept .1 .0 ∙ after0 .turn .kept .1 .0 ∙ l .inv .long)
+    turn-ready (test .before .before .before .before .pre .0) (test .loop-test .taken) {k = 2} (omega arith) (l .c) (l .inv .lane2 .some)
+    (after1 .turn2 .kept .1 .0 ∙ after0 .turn .kept .1 .0 ∙ l .inv .long)
 
 element-copy-out-turn-7 : tie.Need-element-copy-out-turn-7 Inv-loop μ-loop
 element-copy-out-turn-7 c = search needs
@@ -74,10 +76,14 @@ turn-requires-4 c κs =
     let after0 = after1 .before .before .before .before .before .before in
     let test = after0 .before .before .before .before in
     let l = test .before .loop in
-    turn-ready (test .before .before .before .before .pre .0) (test .loop-test .taken) {k = 3} (omega arith) (l .d) (l .inv .lane3 .some) (after2 .turn3 .kept .1 .0 ∙ after1 .turn2 .kept .1 .0 ∙ after0 .turn .kept .1 .0 ∙ l .inv .long)
+    turn-ready (test .before .before .before .before .pre .0) (test .loop-test .taken) {k = 3} (omega arith) (l .d) (l .inv .lane3 .some)
+    (after2 .turn3 .kept .1 .0 ∙ after1 .turn2 .kept .1 .0 ∙ after0 .turn .kept .1 .0 ∙ l .inv .long)
 
 add-t : tie.Need-add-t Inv-loop μ-loop
-add-t c = let test = c .before .before .before .before .before .before .before .before .before .before .before .before .before .before .before .before .before .before .before .before .before .before .before .before in record { fits = omega (arith, test .loop-test .taken, test .before .before .before .before .pre .0 .room) }
+add-t c =
+    let after1 = c .before .before .before .before .before .before .before .before .before .before .before .before .before .before in
+    let test = after1 .before .before .before .before .before .before .before .before .before .before in
+    record { fits = omega (arith, test .loop-test .taken, test .before .before .before .before .pre .0 .room) }
 
 loop-less : tie.Need-loop-less Inv-loop μ-loop
 loop-less c = search needs
