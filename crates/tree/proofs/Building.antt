@@ -37,6 +37,15 @@ pub seats-fewer : {levels : List ℤ} {index : List ℕ} {first count : ℕ} (k 
     → Levelled levels index first k
 seats-fewer k l h = record { within = omega (arith, h .within); held = λ t b. h .held t (omega arith); ranged = λ t b. h .ranged t (omega arith) }
 
+-- some of the seats, from one on
+pub later-seats : {levels : List ℤ} {index : List ℕ} {first count : ℕ} (k size : ℕ) → k + size ≤ count → Levelled levels index first count
+    → Levelled levels index (first + k) size
+later-seats {first = first} k size l h = record {
+  within = omega (arith, h .within);
+  held = λ t b. let e : first + k + t ≡ first + (k + t) = omega arith in rw e (h .held (k + t) (omega arith));
+  ranged = λ t b. let e : first + k + t ≡ first + (k + t) = omega arith in rw e (h .ranged (k + t) (omega arith));
+}
+
 -- the row of t slots has room where that of more slots has
 pub room : {t size n m : ℕ} → t ≤ size → 2 ^ size ≤ n → m ≡ n → 2 ^ t ≤ m
 room l h e = rw e (le-trans (pow-mono l) h)

@@ -15,6 +15,9 @@ pub mod BothEnds
 pub mod Doubling
 pub mod Mirrors
 pub mod Merging
+pub mod LaneTurns
+pub mod LaneMirrors
+pub mod LaneRows
 pub mod Building
 pub mod Places
 pub mod Searching

@@ -40,8 +40,8 @@ module _ (row : List ℕ) (x y : ℕ) (rising : Rising _<_ row) (m : ℕ) (long 
       }
 
   -- the entry after i turns, and the one as far from the end
-  lower : (i : ℕ) → i < m → getD (doubled x y row) i 0 + getD (doubled x y row) (m + m - 1 - i) 0 ≡ Sum row x y rising m long mirrored
-  lower i l =
+  pub doubled-sum : (i : ℕ) → i < m → getD (doubled x y row) i 0 + getD (doubled x y row) (m + m - 1 - i) 0 ≡ Sum row x y rising m long mirrored
+  doubled-sum i l =
       let g = gone i (omega arith) in
       let t = turn i l g in
       let first = rw (g .all) at (t .first) in
@@ -49,13 +49,13 @@ module _ (row : List ℕ) (x y : ℕ) (rising : Rising _<_ row) (m : ℕ) (long 
       omega (arith, first, last, mirrored (g .a) (omega (arith, g .all)), mirrored (g .b) (omega (arith, g .all)))
 
   pub doubled-mirrored : Mirrored (doubled x y row) (m + m)
-  doubled-mirrored i l = go (decLt i m) ∙ sym (rw (sub-zero (m + m - 1)) at (lower 0 (omega arith)))
+  doubled-mirrored i l = go (decLt i m) ∙ sym (rw (sub-zero (m + m - 1)) at (doubled-sum 0 (omega arith)))
     where
       go : Dec (i < m) → getD (doubled x y row) i 0 + getD (doubled x y row) (m + m - 1 - i) 0 ≡ Sum row x y rising m long mirrored
-      go (yes h) = lower i h
+      go (yes h) = doubled-sum i h
       go (no h) =
           let back : m + m - 1 - (m + m - 1 - i) ≡ i = omega arith in
-          add-comm (getD (doubled x y row) i 0) _ ∙ rw back at (lower (m + m - 1 - i) (omega arith))
+          add-comm (getD (doubled x y row) i 0) _ ∙ rw back at (doubled-sum (m + m - 1 - i) (omega arith))
 
 -- every sorted row is mirrored
 pub row-mirrored : (cost : ℕ → ℕ → ℕ) (t : ℕ) → t ≤ 8 → Mirrored (rowOf cost t) (2 ^ t)

@@ -10,15 +10,15 @@ use lib.ListN.{length, getD, take, drop, set, replicate, length-set, length-appe
 use lib.Seq.{getD-set-same, getD-set-other, getD-append-add, getD-take, length-take-le}
 use Rattle.laws.specs.Bits.{power-shifted}
 use Rattle.laws.specs.SortedRows.{rowOf, row-length}
-use Rattle.tree.proofs.Building.{by-size, size-small}
+use Rattle.tree.proofs.Building.{by-size, size-small, later-seats}
 use Rattle.tree.specs.Costs.{GroupSize, Levelled, seatCost, RowsRight}
 
 -- the place of group k among groups of a size
 pub record Place (size groups k : ℕ) : Type 0 where
   pub start : k * 2 ^ size < 4096
-  pub inside : k * 2 ^ size / 256 < 8
-  pub fits : k * 2 ^ size % 256 + 2 ^ size ≤ 256
-  pub apart : (i : ℕ) → i < k → i * 2 ^ size / 256 ≡ k * 2 ^ size / 256 → i * 2 ^ size % 256 + 2 ^ size ≤ k * 2 ^ size % 256
+  pub inside : k * 2 ^ size / 1024 < 2
+  pub fits : k * 2 ^ size % 1024 + 2 ^ size ≤ 1024
+  pub apart : (i : ℕ) → i < k → i * 2 ^ size / 1024 ≡ k * 2 ^ size / 1024 → i * 2 ^ size % 1024 + 2 ^ size ≤ k * 2 ^ size % 1024
   pub seats : k * size + size ≤ groups * size
 
 pub place : {levels : List ℤ} {index : List ℕ} {size groups k : ℕ} → GroupSize size × Levelled levels index 0 (groups * size) → k < groups
@@ -34,11 +34,7 @@ row-entries {size} g = power-shifted 64 size (omega (arith, size-small g))
 -- the seats of group k, among those of all groups
 pub group-seats : {levels : List ℤ} {index : List ℕ} {count : ℕ} (first size : ℕ) → first + size ≤ count → Levelled levels index 0 count
     → Levelled levels index first size
-group-seats first size l h = record {
-  within = omega (arith, h .within);
-  held = λ t b. rw (zero-add (first + t)) at (h .held (first + t) (omega arith));
-  ranged = λ t b. rw (zero-add (first + t)) at (h .ranged (first + t) (omega arith));
-}
+group-seats first size l h = rw (zero-add first) at (later-seats first size l h)
 
 -- a list with n elements from index `at` on replaced by a row
 abbrev put : List ℕ → List ℕ → ℕ → ℕ → List ℕ
@@ -59,26 +55,26 @@ module _ (packed row : List ℕ) (at n : ℕ) (long : length row ≡ n) (fits : 
   put-in j l =
       rw before at (getD-append-add (take at packed) (row ++ drop (at + n) packed) j 0) ∙ List·getD-append row (drop (at + n) packed) 0 j (omega arith)
 
--- a table of 8 rows of 256 entries, of which those of the first k groups are right
+-- a table of 2 rows of 1024 entries, of which those of the first k groups are right
 pub record Filled (levels : List ℤ) (index : List ℕ) (size k : ℕ) (table : List (List ℕ)) : Type 0 where
-  pub rows : length table ≡ 8
-  pub entries : (o : ℕ) → o < 8 → length (getD table o []) ≡ 256
+  pub rows : length table ≡ 2
+  pub entries : (o : ℕ) → o < 2 → length (getD table o []) ≡ 1024
   pub right : RowsRight levels index k size table
 
-pub filled-none : (levels : List ℤ) (index : List ℕ) (size : ℕ) → Filled levels index size 0 (replicate 8 (replicate 256 0))
+pub filled-none : (levels : List ℤ) (index : List ℕ) (size : ℕ) → Filled levels index size 0 (replicate 2 (replicate 1024 0))
 unfolding RowsRight
 filled-none levels index size = record {
   rows = refl;
-  entries = λ o l. ap length (getD-replicate 8 o (replicate 256 0) [] l);
+  entries = λ o l. ap length (getD-replicate 2 o (replicate 1024 0) [] l);
   right = λ k j l. absurd (not-suc-le-zero l);
 }
 
 module _ {levels : List ℤ} {index : List ℕ} {groups size k : ℕ} {table : List (List ℕ)} (p : Place size groups k) (f : Filled levels index size k table) where
   abbrev o : ℕ
-  o = k * 2 ^ size / 256
+  o = k * 2 ^ size / 1024
 
   abbrev at : ℕ
-  at = k * 2 ^ size % 256
+  at = k * 2 ^ size % 1024
 
   abbrev row : List ℕ
   row = rowOf (seatCost levels index (k * size)) size
@@ -95,19 +91,19 @@ module _ {levels : List ℤ} {index : List ℕ} {groups size k : ℕ} {table : L
   elsewhere : (q : ℕ) → (q ≡ o → ⊥) → getD (set table o new) q [] ≡ getD table q []
   elsewhere q n = getD-set-other table o q new [] n
 
-  entries-more : (q : ℕ) → q < 8 → Dec (q ≡ o) → length (getD (set table o new) q []) ≡ 256
+  entries-more : (q : ℕ) → q < 2 → Dec (q ≡ o) → length (getD (set table o new) q []) ≡ 1024
   entries-more q l (yes e) = rw (e, here, put-length (getD table o []) row at (2 ^ size) (row-length _ size) fits) (f .entries o (p .inside))
   entries-more q l (no n) = rw (elsewhere q n) (f .entries q l)
 
-  right-more : (i j : ℕ) → i < suc k → j < 2 ^ size → Dec (i ≡ k) → Dec (i * 2 ^ size / 256 ≡ o)
-      → getD (getD (set table o new) (i * 2 ^ size / 256) []) (i * 2 ^ size % 256 + j) 0 ≡ getD (rowOf (seatCost levels index (i * size)) size) j 0
+  right-more : (i j : ℕ) → i < suc k → j < 2 ^ size → Dec (i ≡ k) → Dec (i * 2 ^ size / 1024 ≡ o)
+      → getD (getD (set table o new) (i * 2 ^ size / 1024) []) (i * 2 ^ size % 1024 + j) 0 ≡ getD (rowOf (seatCost levels index (i * size)) size) j 0
   unfolding RowsRight
   right-more i j l b (yes e) s = rw (e, here) (put-in (getD table o []) row at (2 ^ size) (row-length _ size) fits j b)
   right-more i j l b (no n) (yes s) =
       let less : i < k = omega arith in
       rw (s, here)
-      (put-before (getD table o []) row at (2 ^ size) (row-length _ size) fits (i * 2 ^ size % 256 + j) (omega (arith, p .apart i less s)) ∙ rw s at (f .right i j less b))
-  right-more i j l b (no n) (no s) = rw (elsewhere (i * 2 ^ size / 256) s) (f .right i j (omega arith) b)
+      (put-before (getD table o []) row at (2 ^ size) (row-length _ size) fits (i * 2 ^ size % 1024 + j) (omega (arith, p .apart i less s)) ∙ rw s at (f .right i j less b))
+  right-more i j l b (no n) (no s) = rw (elsewhere (i * 2 ^ size / 1024) s) (f .right i j (omega arith) b)
 
   -- one row more, put at its place
   pub filled-more : Filled levels index size (suc k) (set table o new)
@@ -115,5 +111,5 @@ module _ {levels : List ℤ} {index : List ℕ} {groups size k : ℕ} {table : L
   filled-more = record {
     rows = length-set table o new ∙ f .rows;
     entries = λ q l. entries-more q l (ℕ-discrete q o);
-    right = λ i j l b. right-more i j l b (ℕ-discrete i k) (ℕ-discrete (i * 2 ^ size / 256) o);
+    right = λ i j l b. right-more i j l b (ℕ-discrete i k) (ℕ-discrete (i * 2 ^ size / 1024) o);
   }

@@ -2,6 +2,7 @@ pub mod Seating
 pub mod Grouping
 pub mod Tables
 pub mod Costs
+pub mod Lanes
 pub mod Empty
 pub mod States
 pub mod Nodes

@@ -1,6 +1,7 @@
 // Decoding by the folded tree: the least word of received levels, under every folding.
 mod cost;
 mod empty;
+mod four;
 mod group;
 mod row;
 mod seat;

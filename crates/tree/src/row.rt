@@ -11,8 +11,9 @@ ghost use Rattle.laws.specs.SortedLists.{Rising};
 ghost use Rattle.laws.specs.SortedRows.{doubled};
 ghost use Rattle.tree.specs.Costs.{seatRow, GroupSize, Levelled, Mirrored, RowsRight};
 use crate::cost::slot_costs;
+use crate::four::fours;
 
-fn least(x: u64, y: u64) -> u64
+pub(crate) fn least(x: u64, y: u64) -> u64
     ensures { λ r. ⌜ r ≡ min x y ⌝ }
 {
     if x < y { x } else { y }
@@ -26,7 +27,7 @@ fn either(first: bool, x: u64, y: u64) -> u64
 }
 
 // 1 where x is the smaller, else 0.
-fn less(x: u64, y: u64) -> usize
+pub(crate) fn less(x: u64, y: u64) -> usize
     ensures { λ r. ⌜ (r ≡ cond (ltb x y) 1 0) × (r ≤ 1) ⌝ }
 {
     (x < y) as usize
@@ -62,7 +63,7 @@ fn double(from: &[u64], to: &mut [u64], m: usize, zero: u64, one: u64)
 }
 
 // The level at a seat.
-fn seat_level(levels: &[i32], index: &[usize; 64], seat: usize) -> i32
+pub(crate) fn seat_level(levels: &[i32], index: &[usize; 64], seat: usize) -> i32
     requires { ⌜ (seat < 64) × (getD (now index) seat 0 < length (now levels)) ⌝ }
     ensures { λ r. ⌜ r ≡ levelAt (now (levels .entry)) (getD (now (index .entry)) seat 0) ⌝ }
 {
@@ -140,23 +141,18 @@ fn fill_at(
 }
 
 // The rows of all groups, one after the other.
-pub(crate) fn rows(
-    levels: &[i32],
-    index: &[usize; 64],
-    groups: usize,
-    size: usize,
-) -> [[u64; 256]; 8]
+fn singles(levels: &[i32], index: &[usize; 64], groups: usize, size: usize) -> [[u64; 1024]; 2]
     requires { ⌜ GroupSize size × Levelled (now levels) (now index) 0 (groups * size) ⌝ }
     ensures { λ r. ⌜ RowsRight (now (levels .entry)) (now (index .entry)) groups size r ⌝ }
 {
-    let mut table = [[0u64; 256]; 8];
+    let mut table = [[0u64; 1024]; 2];
     let mut spare = [0u64; 256];
     let entries: usize = 1 << size;
     let mut k = 0;
     while k < groups {
         let start = k * entries;
-        let row = start / 256;
-        let at = start % 256;
+        let row = start / 1024;
+        let at = start % 1024;
         fill_at(
             &mut table[row],
             at,
@@ -169,4 +165,20 @@ pub(crate) fn rows(
         k += 1;
     }
     table
+}
+
+// The rows of all groups: four at a time where each has 8 slots and their number goes by fours, else one at a time.
+pub(crate) fn rows(
+    levels: &[i32],
+    index: &[usize; 64],
+    groups: usize,
+    size: usize,
+) -> [[u64; 1024]; 2]
+    requires { ⌜ GroupSize size × Levelled (now levels) (now index) 0 (groups * size) ⌝ }
+    ensures { λ r. ⌜ RowsRight (now (levels .entry)) (now (index .entry)) groups size r ⌝ }
+{
+    if size == 8 && groups % 4 == 0 {
+        return fours(levels, index, groups / 4);
+    }
+    singles(levels, index, groups, size)
 }

@@ -23,13 +23,13 @@ use crate::state::used_up;
 use word::Word;
 
 // Entry j of the sorted row of group k.
-fn entry(rows: &[[u64; 256]; 8], size: usize, k: usize, j: usize) -> u64
+fn entry(rows: &[[u64; 1024]; 2], size: usize, k: usize, j: usize) -> u64
     requires { ⌜ Inside size k j ⌝ }
     ensures { λ r. ⌜ r ≡ entryAt (now (rows .entry)) size k j ⌝ }
 {
     let start = k * (1 << size);
-    let row = start / 256;
-    let place = start % 256 + j;
+    let row = start / 1024;
+    let place = start % 1024 + j;
     rows[row][place]
 }
 
@@ -51,7 +51,7 @@ fn is_open(w: Word, shut: Word) -> bool
 
 // With no level left the word is kept or not; else the candidates of the next group are tried in order.
 fn node(
-    rows: &[[u64; 256]; 8],
+    rows: &[[u64; 1024]; 2],
     change: &[Word; 256],
     covered: &[Word; 64],
     shut: &[Word; 64],
@@ -108,7 +108,7 @@ fn node(
 
 // The walk from the first level, with no best word.
 pub(crate) fn walk(
-    rows: &[[u64; 256]; 8],
+    rows: &[[u64; 1024]; 2],
     change: &[Word; 256],
     covered: &[Word; 64],
     shut: &[Word; 64],
