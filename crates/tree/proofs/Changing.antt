@@ -16,7 +16,7 @@ use Rattle.laws.specs.Seats.{seatIndex, seat-below}
 use Rattle.laws.specs.SeatWords.{unseat-zero}
 use Rattle.laws.specs.Decided.{changeOf}
 use Rattle.laws.specs.Copied.{change-more}
-use Rattle.tree.specs.declared.group.Groups.{Groups}
+use Rattle.tree.specs.declared.group.Tree.{Tree}
 use Rattle.tree.specs.Grouping.{Grouped, Doubled}
 use Rattle.tree.specs.Seating.{Seated}
 use Rattle.tree.proofs.SeatLoops.{index-at, index-fits}
@@ -24,18 +24,18 @@ use Rattle.tree.proofs.Tabling.{size-small, seat-within}
 use Rattle.tree.proofs.WordsDoubled.{Begins, begins-doubled}
 
 -- the changes of the patterns below 2 ^ t
-pub record Changed (g : Groups) (l : List ℕ) (t : ℕ) : Type 0 where
+pub record Changed (g : Tree) (l : List ℕ) (t : ℕ) : Type 0 where
   pub long : length l ≡ 256
   pub done : Begins l (changeOf (g .n) (g .folding) 0) (2 ^ t)
 
 -- pattern 0 changes nothing
-pub changed-first : (g : Groups) (l : List ℕ) → length l ≡ 256 → getD l 0 0 ≡ 0 → Changed g l 0
+pub changed-first : (g : Tree) (l : List ℕ) → length l ≡ 256 → getD l 0 0 ≡ 0 → Changed g l 0
 changed-first g l long first = record { long = long; done = λ u h. go u (omega arith) }
   where
     go : (u : ℕ) → u ≡ 0 → getD l u 0 ≡ changeOf (g .n) (g .folding) 0 u
     go u e = rw (e, zero-mul (2 ^ (0 * 2 ^ ones (g .folding))), unseat-zero (g .n) (g .folding), codeword-zero (g .n)) first
 
-module _ {g : Groups} (given : Grouped g) {l : List ℕ} {t : ℕ} (changed : Changed g l t) (h : t < g .size) where
+module _ {g : Tree} (given : Grouped g) {l : List ℕ} {t : ℕ} (changed : Changed g l t) (h : t < g .size) where
   -- how many patterns there are so far, as the machine shifts it
   many-is : 1 * 2 ^ t % 2 ^ 64 ≡ 2 ^ t
   many-is = power-shifted 64 t (omega (arith, h, size-small given))
@@ -62,7 +62,7 @@ module _ {g : Groups} (given : Grouped g) {l : List ℕ} {t : ℕ} (changed : Ch
       twice = rw (add-one t) (omega (arith, two-pow-succ t))
 
 -- the codeword of an index of group 0, as the code makes it
-pub column-is : {g : Groups} → Grouped g → {l : List ℕ} → Seated l (g .n) (g .folding) → {t : ℕ} → t < g .size
+pub column-is : {g : Tree} → Grouped g → {l : List ℕ} → Seated l (g .n) (g .folding) → {t : ℕ} → t < g .size
     → codeword 6 (1 * 2 ^ getD l t 0 % 2 ^ 64) ≡ codeword (g .n) (2 ^ seatIndex (g .n) (g .folding) t)
 column-is {g = g} given {l = l} seated {t = t} h =
     rw (power-shifted 64 (getD l t 0) (index-fits seated (seat-within given h)), index-at seated t (seat-within given h))

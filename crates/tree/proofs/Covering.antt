@@ -13,7 +13,7 @@ use Rattle.laws.specs.Matrix.{codeword-lt}
 use Rattle.laws.specs.Copied.{spreadOf, spread-first, spread-more}
 use Rattle.laws.specs.Seats.{seatIndex}
 use Rattle.laws.specs.SeatedDown.{groups-blocks}
-use Rattle.tree.specs.declared.group.Groups.{Groups}
+use Rattle.tree.specs.declared.group.Tree.{Tree}
 use Rattle.tree.specs.Grouping.{Grouped, Doubled}
 use Rattle.tree.specs.Seating.{Seated}
 use Rattle.tree.proofs.SeatLoops.{index-at}
@@ -21,13 +21,13 @@ use Rattle.tree.proofs.Tabling.{few-groups, first-seat}
 use Rattle.tree.proofs.WordsDoubled.{Begins, begins-doubled}
 
 -- the loop's invariant: the groups below m are done, and m is a power of two
-pub record Covering (g : Groups) (r : List ℕ) (m : ℕ) : Type 0 where
+pub record Covering (g : Tree) (r : List ℕ) (m : ℕ) : Type 0 where
   pub long : length r ≡ 64
   pub power : (b : ℕ) × (m ≡ 2 ^ b)
   pub done : Begins r (spreadOf (g .n) (g .folding)) m
 
 -- m is not 0
-pub some-done : {g : Groups} {r : List ℕ} {m : ℕ} → Covering g r m → 0 < m
+pub some-done : {g : Tree} {r : List ℕ} {m : ℕ} → Covering g r m → 0 < m
 some-done inv = rw (inv .power .1) (pow-pos (inv .power .0))
 
 -- a power of two below another: twice it is at most the other
@@ -38,9 +38,9 @@ twice-within b c h = go (decLt b c)
     go (yes l) = omega (arith, two-pow-succ b, pow-mono {i = suc b} {j = c} l)
     go (no g) = absurd (omega (arith, h, pow-mono {i = c} {j = b} (omega arith)))
 
-module _ {g : Groups} (given : Grouped g) where
+module _ {g : Tree} (given : Grouped g) where
   -- the groups are a power of two
-  count-is : g .count ≡ 2 ^ (g .n - ones (g .folding))
+  count-is : g .groups ≡ 2 ^ (g .n - ones (g .folding))
   count-is = given .all ∙ groups-blocks (g .n) (g .folding) (given .fits)
 
   -- group 0 covers itself alone
@@ -50,9 +50,9 @@ module _ {g : Groups} (given : Grouped g) where
       go : (k : ℕ) → k ≡ 0 → getD r k 0 ≡ spreadOf (g .n) (g .folding) k
       go k e = rw e (first ∙ sym (spread-first (g .n) (g .folding) (given .fits)))
 
-  module _ {r : List ℕ} {m : ℕ} (inv : Covering g r m) (inside : m < g .count) where
+  module _ {r : List ℕ} {m : ℕ} (inv : Covering g r m) (inside : m < g .groups) where
     -- there are as many groups more
-    groups-more : m + m ≤ g .count
+    groups-more : m + m ≤ g .groups
     groups-more = rw (inv .power .1, count-is) (twice-within (inv .power .0) _ (rw (inv .power .1, count-is) at inside))
 
     -- and room for them

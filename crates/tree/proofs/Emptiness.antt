@@ -19,7 +19,7 @@ use Rattle.laws.specs.FillingNumber.{group-fillings}
 use Rattle.laws.specs.SeatedRow.{blockOf}
 use Rattle.laws.specs.SeatWords.{seat}
 use Rattle.laws.specs.Copied.{shut-ones}
-use Rattle.tree.specs.declared.group.Groups.{Groups}
+use Rattle.tree.specs.declared.group.Tree.{Tree}
 use Rattle.tree.specs.Grouping.{Grouped, Shut}
 use Rattle.tree.specs.Empty.{FewShut, FirstEmpty, isEmptyLevel}
 
@@ -29,18 +29,18 @@ empty-length [] = refl
 empty-length (x ∷ xs) = sym (ne-eqb (suc (length xs)) 0 (λ e. omega arith))
 
 -- what the code counts at a level: how many fillings the frozen indices of its group leave
-pub record Read (l : List ℕ) (g : Groups) (level many : ℕ) : Type 0 where
-  pub inside : level < g .count
-  pub number : many ≡ 2 ^ (g .size - ones (getD l (g .count - 1 - level) 0))
+pub record Read (l : List ℕ) (g : Tree) (level many : ℕ) : Type 0 where
+  pub inside : level < g .groups
+  pub number : many ≡ 2 ^ (g .size - ones (getD l (g .groups - 1 - level) 0))
 
 -- no level before this one is empty
-pub record Passed (l : List ℕ) (g : Groups) (level : ℕ) : Type 0 where
-  pub inside : level ≤ g .count
+pub record Passed (l : List ℕ) (g : Tree) (level : ℕ) : Type 0 where
+  pub inside : level ≤ g .groups
   pub full : (mask : ℕ) → Shut l g mask → (t : ℕ) → t < level → isEmptyLevel (g .n) mask (g .folding) t ≡ false
 
-module _ {g : Groups} (given : Grouped g) where
+module _ {g : Tree} (given : Grouped g) where
   -- a group's frozen indices are as many as in seat order
-  seated-ones : (l : List ℕ) (mask : ℕ) → Shut l g mask → (k : ℕ) → k < g .count
+  seated-ones : (l : List ℕ) (mask : ℕ) → Shut l g mask → (k : ℕ) → k < g .groups
       → ones (getD l k 0) ≡ ones (blockOf (2 ^ ones (g .folding)) k (seat (g .n) (g .folding) mask))
   seated-ones l mask shut k h = ap ones (shut k h) ∙ shut-ones (g .n) (g .folding) (given .fits) mask k (rw (given .all) at h)
 
@@ -49,7 +49,7 @@ module _ {g : Groups} (given : Grouped g) where
   few-shut l mask shut k h =
       rw (seated-ones l mask shut k h, given .sized) (ones-le (2 ^ ones (g .folding)) _ (mod-lt _ (pow-pos (2 ^ ones (g .folding)))))
 
-module _ {l : List ℕ} {g : Groups} (given : Grouped g) where
+module _ {l : List ℕ} {g : Tree} (given : Grouped g) where
   -- the level is empty exactly where the code's number is 0
   level-empty : {level many : ℕ} → Read l g level many → (mask : ℕ) → Shut l g mask → isEmptyLevel (g .n) mask (g .folding) level ≡ eqb many 0
   level-empty {level} {many} read mask shut =
@@ -62,7 +62,7 @@ module _ {l : List ℕ} {g : Groups} (given : Grouped g) where
       inside : k < rules.groups (g .n) (g .folding)
       inside = omega (arith, given .all, read .inside)
 
-      own : g .count - 1 - level ≡ k
+      own : g .groups - 1 - level ≡ k
       own = omega (arith, given .all)
 
       counted : many ≡ 2 ^ (2 ^ ones (g .folding) - ones (blockOf (2 ^ ones (g .folding)) k (seat (g .n) (g .folding) mask)))
@@ -85,7 +85,7 @@ module _ {l : List ℕ} {g : Groups} (given : Grouped g) where
 
   -- a level with none is the first
   pub found-empty : {level many : ℕ} → Passed l g level → Read l g level many → many ≡ 0
-      → (mask : ℕ) → Shut l g mask → FirstEmpty (g .n) mask (g .folding) (g .count) level
+      → (mask : ℕ) → Shut l g mask → FirstEmpty (g .n) mask (g .folding) (g .groups) level
   found-empty {level} {many} passed read empty mask shut = record {
     inside = passed .inside;
     named = λ h. some-of (rules.groups (g .n) (g .folding)) (isEmptyLevel (g .n) mask (g .folding)) level (rw (given .all) at (read .inside))
@@ -94,7 +94,7 @@ module _ {l : List ℕ} {g : Groups} (given : Grouped g) where
   }
 
   -- past the last level there is none
-  pub found-none : Passed l g (g .count) → (mask : ℕ) → Shut l g mask → FirstEmpty (g .n) mask (g .folding) (g .count) (g .count)
+  pub found-none : Passed l g (g .groups) → (mask : ℕ) → Shut l g mask → FirstEmpty (g .n) mask (g .folding) (g .groups) (g .groups)
   found-none passed mask shut = record {
     inside = passed .inside;
     named = λ h. absurd (omega arith);

@@ -33,14 +33,14 @@ use Rattle.tree.specs.Costs.{seatCost, Levelled, RowsRight}
 use Rattle.tree.specs.Nodes.{Tabled, rowCandidates, most}
 use Rattle.tree.specs.States.{empty}
 use Rattle.tree.specs.Search.{Searchable}
-use Rattle.tree.specs.declared.group.Groups.{Groups}
+use Rattle.tree.specs.declared.group.Tree.{Tree}
 use Rattle.tree.proofs.SeatLoops.{index-at}
 use Rattle.tree.proofs.Tabling.{size-small, all-indices}
 
-module _ {levels : List ℤ} {g : Groups} (grouped : Grouped g) (given : Searchable (g .n) levels (g .folding)) {index : List ℕ}
+module _ {levels : List ℤ} {g : Tree} (grouped : Grouped g) (given : Searchable (g .n) levels (g .folding)) {index : List ℕ}
     (seated : Seated index (g .n) (g .folding)) where
   -- every seat has a level in range
-  pub levelled : Levelled levels index 0 (g .count * g .size)
+  pub levelled : Levelled levels index 0 (g .groups * g .size)
   levelled =
       record {
         within = omega (arith, all-indices grouped, pow-mono {j = 6} (given .small));
@@ -50,19 +50,19 @@ module _ {levels : List ℤ} {g : Groups} (grouped : Grouped g) (given : Searcha
             λ t h. rw (zero-add t, index-at seated t (rw (all-indices grouped) at h)) (given .ranged _ (seat-below (g .n) (g .folding) (given .fits) t (rw (all-indices grouped) at h)));
       }
 
-  module _ (table : List (List ℕ)) (right : RowsRight levels index (g .count) (g .size) table) where
+  module _ (table : List (List ℕ)) (right : RowsRight levels index (g .groups) (g .size) table) where
     -- a seat of group k is a seat
-    inside : (k t : ℕ) → k < g .count → t < g .size → k * g .size + t < 2 ^ (g .n)
+    inside : (k t : ℕ) → k < g .groups → t < g .size → k * g .size + t < 2 ^ (g .n)
     inside k t hk ht = omega (arith, all-indices grouped, mul-le-mul-right (g .size) hk, suc-mul k (g .size))
 
     -- an entry is one of its row's
-    entry-in : (k j : ℕ) → k < g .count → j < 2 ^ (g .size) → List·Memᴰ (entryAt table (g .size) k j) (rowOf (seatCost levels index (k * g .size)) (g .size))
+    entry-in : (k j : ℕ) → k < g .groups → j < 2 ^ (g .size) → List·Memᴰ (entryAt table (g .size) k j) (rowOf (seatCost levels index (k * g .size)) (g .size))
     unfolding RowsRight
     entry-in k j hk hj =
         rw (right k j hk hj)
         (mem-getD (rowOf (seatCost levels index (k * g .size)) (g .size)) j 0 (rw (row-length (seatCost levels index (k * g .size)) (g .size)) hj))
 
-    cheap : (k : ℕ) → k < g .count → (t b : ℕ) → t < g .size → seatCost levels index (k * g .size) t b ≤ most
+    cheap : (k : ℕ) → k < g .groups → (t b : ℕ) → t < g .size → seatCost levels index (k * g .size) t b ≤ most
     cheap k hk t b ht =
         let h = inside k t hk ht in
         slot-greatest _ b (rw (index-at seated (k * g .size + t) h) (given .ranged _ (seat-below (g .n) (g .folding) (given .fits) _ h)))
@@ -79,7 +79,7 @@ module _ {levels : List ℤ} {g : Groups} (grouped : Grouped g) (given : Searcha
           frozen = (mask, frozen);
         }
       where
-        narrow : (k j : ℕ) → k < g .count → j < 2 ^ (g .size) → entryAt table (g .size) k j % 256 < 2 ^ (g .size)
+        narrow : (k j : ℕ) → k < g .groups → j < 2 ^ (g .size) → entryAt table (g .size) k j % 256 < 2 ^ (g .size)
         narrow k j hk hj =
             let r = row-at (seatCost levels index (k * g .size)) (g .size) _ (entry-in k j hk hj) in
             rw (r .2, entry-parts (seatCost levels index (k * g .size)) (g .size) (r .0) (size-small grouped) (r .1) .1) (r .1)
@@ -98,7 +98,7 @@ module _ {levels : List ℤ} {g : Groups} (grouped : Grouped g) (given : Searcha
         (index-at seated (k * g .size + t) (inside k t group ht) ∙ ap (λ (z : ℕ). seatIndex (g .n) (g .folding) (k * z + t)) (grouped .sized)))
         ∙ ap (rowOf _) (grouped .sized)
       where
-        group : k < g .count
+        group : k < g .groups
         group = rw (grouped .all) hk
 
         at : (j : ℕ) → j < 2 ^ (g .size) → getD (rowAt table (g .size) k) j 0 ≡ getD (rowOf (seatCost levels index (k * g .size)) (g .size)) j 0
@@ -106,7 +106,7 @@ module _ {levels : List ℤ} {g : Groups} (grouped : Grouped g) (given : Searcha
 
     module _ (mask allowance : ℕ) (shut : List ℕ) (frozen : Shut shut g mask) where
       -- at each group the candidates are those of the mask
-      same-candidates : (k d : ℕ) → k < g .count → rowCandidates table shut g k d ≡ seatedCandidates (g .n) mask (g .folding) (rowAt table (g .size)) k d
+      same-candidates : (k d : ℕ) → k < g .groups → rowCandidates table shut g k d ≡ seatedCandidates (g .n) mask (g .folding) (rowAt table (g .size)) k d
       unfolding rowCandidates seatedCandidates
       same-candidates k d hk =
           let n = g .n in
@@ -119,13 +119,13 @@ module _ {levels : List ℤ} {g : Groups} (grouped : Grouped g) (given : Searcha
           ∙ ap (λ (z : ℕ). entryCandidates n folding z k (blockOf z k (codeword n (seat n folding d))) (blockOf z k (seat n folding mask)) (rowAt table (g .size) k)) (grouped .sized)
 
       -- what the walk finds: nothing where its total passes the allowance, else the least word, its distance and the total
-      pub walked : walkIn keepBest allowance (rowCandidates table shut g) (g .count) 0 0 (some empty)
+      pub walked : walkIn keepBest allowance (rowCandidates table shut g) (g .groups) 0 0 (some empty)
           ≡ cond (ltb allowance (walkVisits (g .n) mask (levelCost levels) (g .folding))) none
           (some (record {
             kept = best (wordDistance (g .n) (levelCost levels) (leastWord (g .n) mask (levelCost levels))) (leastWord (g .n) mask (levelCost levels));
             visits = walkVisits (g .n) mask (levelCost levels) (g .folding);
           }))
       walked =
-          walk-cong keepBest allowance _ _ (g .count) same-candidates 0 0 (some empty)
+          walk-cong keepBest allowance _ _ (g .groups) same-candidates 0 0 (some empty)
           ∙ ap (λ (m : ℕ). walkIn keepBest allowance (seatedCandidates (g .n) mask (g .folding) (rowAt table (g .size))) m 0 0 (some empty)) (grouped .all)
           ∙ seated-least-in (g .n) mask (levelCost levels) (g .folding) (rowAt table (g .size)) (given .fits) (given .few) rows-sorted allowance

@@ -20,7 +20,7 @@ use Rattle.tree.specs.Tables.{Inside, entryAt}
 use Rattle.tree.specs.Costs.{GroupSize}
 use Rattle.tree.specs.Grouping.{Grouped}
 use Rattle.tree.specs.Nodes.{Given, rowCandidates, most}
-use Rattle.tree.specs.declared.group.Groups.{Groups}
+use Rattle.tree.specs.declared.group.Tree.{Tree}
 use Rattle.tree.specs.declared.state.Walked.{Walked}
 use Rattle.tree.proofs.Rows.{rest}
 use Rattle.tree.proofs.Building.{by-size}
@@ -30,8 +30,8 @@ use Rattle.tree.proofs.Tabling.{size-small, all-indices, few-groups as 
 in-table : {size : ℕ} (k : ℕ) → GroupSize size → suc k * size ≤ 64 → k * 2 ^ size < 2048
 in-table k = by-size (λ (size : ℕ). suc k * size ≤ 64 → k * 2 ^ size < 2048) (λ h. omega arith) (λ h. omega arith) (λ h. omega arith) (λ h. omega arith)
 
-module _ {rows : List (List ℕ)} {change covered shut : List ℕ} {g : Groups} {allowance k partial w : ℕ} {s : Walked}
-    (given : Given rows change covered shut g allowance (suc k) partial w s) where
+module _ {rows : List (List ℕ)} {change covered shut : List ℕ} {g : Tree} {k partial w : ℕ} {s : Walked}
+    (given : Given rows change covered shut g (suc k) partial w s) where
   grouped : Grouped g
   grouped = given .tables .grouped
 
@@ -53,7 +53,7 @@ module _ {rows : List (List ℕ)} {change covered shut : List ℕ} {g : Groups} 
   seats-fit =
       omega (
         arith,
-        mul-le-mul-right {m = suc k} {n = g .count} (g .size) (given .begun .within),
+        mul-le-mul-right {m = suc k} {n = g .groups} (g .size) (given .begun .within),
         all-indices grouped,
         pow-mono {j = 6} (grouped .small),
       )
@@ -119,12 +119,11 @@ module _ {rows : List (List ℕ)} {change covered shut : List ℕ} {g : Groups} 
     total-fits = omega (arith, given .tables .near k j (given .begun .within) h, given .begun .room, suc-mul k (g .size * most))
 
     -- what the node one level down is given
-    pub given-down : (total : ℕ) (after : Walked) → total ≡ partial + e / 256 → after .visits ≤ allowance
-        → Given rows change covered shut g allowance k total next after
+    pub given-down : (total : ℕ) (after : Walked) → total ≡ partial + e / 256 → after .visits ≤ g .allowance
+        → Given rows change covered shut g k total next after
     given-down total after isTotal running =
         record {
           tables = given .tables;
-          bounded = given .bounded;
           begun =
               record {
                 within = omega (arith, given .begun .within);

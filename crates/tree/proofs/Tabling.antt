@@ -18,7 +18,7 @@ use Rattle.laws.specs.SeatWords.{unseat, unseatBelow, unseat-lt}
 use Rattle.laws.specs.SeatedBlocks.{unseat-block}
 use Rattle.laws.specs.Decided.{shutOf}
 use Rattle.laws.specs.Copied.{shut-is}
-use Rattle.tree.specs.declared.group.Groups.{Groups}
+use Rattle.tree.specs.declared.group.Tree.{Tree}
 use Rattle.tree.specs.Grouping.{Grouped}
 use Rattle.tree.specs.Seating.{Seated}
 use Rattle.tree.proofs.SeatLoops.{index-at, index-fits, unseat-next}
@@ -31,7 +31,7 @@ bit-ones m t l =
     rw (e, ones-split (suc (d .0)) t)
     (rw add-zero at (bit-high (2 ^ suc (d .0) - 1) t (ones-lt t) 0) ∙ omega (arith, two-pow-succ (d .0), pow-pos (d .0)))
 
-module _ {g : Groups} (given : Grouped g) where
+module _ {g : Tree} (given : Grouped g) where
   -- a group has an index
   pub some-size : 0 < g .size
   some-size = rw (given .sized) (pow-pos (ones (g .folding)))
@@ -41,19 +41,19 @@ module _ {g : Groups} (given : Grouped g) where
   size-small = rw (given .sized) (pow-mono {j = 3} (given .few))
 
   -- the groups have all indices
-  pub all-indices : g .count * g .size ≡ 2 ^ g .n
+  pub all-indices : g .groups * g .size ≡ 2 ^ g .n
   all-indices = ap₂ (λ (a b : ℕ). a * b) (given .all) (given .sized) ∙ groups-all (g .n) (g .folding) (given .fits)
 
   -- there are no more groups than slots in the largest block
-  pub few-groups : g .count ≤ 64
-  few-groups = omega (arith, mul-le-mul-left (g .count) some-size, mul-one (g .count), all-indices, pow-mono {j = 6} (given .small))
+  pub few-groups : g .groups ≤ 64
+  few-groups = omega (arith, mul-le-mul-left (g .groups) some-size, mul-one (g .groups), all-indices, pow-mono {j = 6} (given .small))
 
   -- the first seat of a group
-  pub first-seat : {k : ℕ} → k < g .count → k * g .size < 2 ^ g .n
+  pub first-seat : {k : ℕ} → k < g .groups → k * g .size < 2 ^ g .n
   first-seat h = rw (← all-indices) (mul-lt-mul-of-pos-right h some-size)
 
   -- is a slot of the largest block
-  pub first-seat-fits : {k : ℕ} → k < g .count → k * g .size < 64
+  pub first-seat-fits : {k : ℕ} → k < g .groups → k * g .size < 64
   first-seat-fits h = lt-of-lt-of-le (first-seat h) (pow-mono {j = 6} (given .small))
 
   -- a seat of group 0
@@ -82,7 +82,7 @@ module _ {g : Groups} (given : Grouped g) where
         (rw (bit-ones (g .size) t h, one-mul (2 ^ getD l t 0)) at (unseat-next seated (seat-within h) (2 ^ g .size - 1)))
 
     -- the frozen indices of a group, from the indices of group 0
-    pub shut-here : (mask own : ℕ) → own ≡ unseat (g .n) (g .folding) (2 ^ g .size - 1) → {k : ℕ} → k < g .count
+    pub shut-here : (mask own : ℕ) → own ≡ unseat (g .n) (g .folding) (2 ^ g .size - 1) → {k : ℕ} → k < g .groups
         → bitAnd mask (own * 2 ^ getD l (k * g .size) 0 % 2 ^ 64) ≡ shutOf (g .n) (g .folding) mask k
     shut-here mask own e {k = k} h =
         let inside = rw (given .all) at h in

@@ -19,7 +19,7 @@ use Rattle.laws.specs.Bits.{power-shifted}
 use Rattle.tree.specs.Tables.{entryAt}
 use Rattle.tree.specs.States.{keptOf, runningOf, stateOf}
 use Rattle.tree.specs.Nodes.{Given, rowCandidates}
-use Rattle.tree.specs.declared.group.Groups.{Groups}
+use Rattle.tree.specs.declared.group.Tree.{Tree}
 use Rattle.tree.specs.declared.state.Walked.{Walked}
 use Rattle.tree.proofs.Rows.{rest, rest-open, rest-shut, rest-end}
 use Rattle.tree.proofs.Steps.{narrow, forced, closed, here, next, open-is, fills}
@@ -39,48 +39,48 @@ once-counted : (allowance : ℕ) (s : Walked) → s .visits + 1 ≤ allowance �
 once-counted allowance s h = running-state allowance (once s) h ∙ rw (add-one (s .visits))
 
 -- the word decided so far, with so many levels left
-abbrev pub wordAt : Groups → ℕ → ℕ → ℕ
+abbrev pub wordAt : Tree → ℕ → ℕ → ℕ
 wordAt g left w = decided (g .n) (g .folding) left w
 
 -- the rules' walk of the levels that are left
-abbrev pub under : List (List ℕ) → List ℕ → Groups → ℕ → ℕ → ℕ → ℕ → Option (State keepBest) → Option (State keepBest)
-under rows shut g allowance = walkIn keepBest allowance (rowCandidates rows shut g)
+abbrev pub under : List (List ℕ) → List ℕ → Tree → ℕ → ℕ → ℕ → Option (State keepBest) → Option (State keepBest)
+under rows shut g = walkIn keepBest (g .allowance) (rowCandidates rows shut g)
 
 -- what the rules do with the whole node
-abbrev pub wholly : List (List ℕ) → List ℕ → Groups → ℕ → ℕ → ℕ → ℕ → Option (State keepBest) → Option (State keepBest)
-wholly rows shut g allowance left partial w = under rows shut g allowance left partial (wordAt g left w)
+abbrev pub wholly : List (List ℕ) → List ℕ → Tree → ℕ → ℕ → ℕ → Option (State keepBest) → Option (State keepBest)
+wholly rows shut g left partial w = under rows shut g left partial (wordAt g left w)
 
 -- what they do with candidates of group k, at a state
-abbrev pub trial : List (List ℕ) → List ℕ → Groups → ℕ → ℕ → ℕ → ℕ → List Candidate → Option (State keepBest) → Option (State keepBest)
-trial rows shut g allowance k partial w = visitIn keepBest allowance (under rows shut g allowance k) partial (wordAt g (suc k) w)
+abbrev pub trial : List (List ℕ) → List ℕ → Tree → ℕ → ℕ → ℕ → List Candidate → Option (State keepBest) → Option (State keepBest)
+trial rows shut g k partial w = visitIn keepBest (g .allowance) (under rows shut g k) partial (wordAt g (suc k) w)
 
 -- the loop's invariant
-pub record Trying (rows : List (List ℕ)) (change covered shut : List ℕ) (g : Groups) (allowance left partial w k size entries : ℕ)
+pub record Trying (rows : List (List ℕ)) (change covered shut : List ℕ) (g : Tree) (left partial w k size entries : ℕ)
     (first s : Walked) (j : ℕ) : Type 0 where
-  pub given : Given rows change covered shut g allowance (suc k) partial w first
+  pub given : Given rows change covered shut g (suc k) partial w first
   pub levels : left ≡ suc k
   pub sized : size ≡ g .size
   pub counted : entries ≡ 2 ^ (g .size)
   pub tried : j ≤ 2 ^ (g .size)
-  pub running : s .visits ≤ allowance
-  pub same : trial rows shut g allowance k partial w (rest rows (g .n) (g .folding) (g .size) k (forced given) (closed given) j) (stateOf allowance s)
-      ≡ wholly rows shut g allowance left partial w (stateOf allowance first)
+  pub running : s .visits ≤ (g .allowance)
+  pub same : trial rows shut g k partial w (rest rows (g .n) (g .folding) (g .size) k (forced given) (closed given) j) (stateOf (g .allowance) s)
+      ≡ wholly rows shut g left partial w (stateOf (g .allowance) first)
 
-module _ {rows : List (List ℕ)} {change covered shut : List ℕ} {g : Groups} {allowance left partial w k size entries : ℕ} {first s : Walked} {j : ℕ}
-    (t : Trying rows change covered shut g allowance left partial w k size entries first s j) where
+module _ {rows : List (List ℕ)} {change covered shut : List ℕ} {g : Tree} {left partial w k size entries : ℕ} {first s : Walked} {j : ℕ}
+    (t : Trying rows change covered shut g left partial w k size entries first s j) where
   -- the node's whole result
   abbrev whole : Option (State keepBest)
-  whole = wholly rows shut g allowance left partial w (stateOf allowance first)
+  whole = wholly rows shut g left partial w (stateOf (g .allowance) first)
 
   -- the candidates of the row from an entry on
   abbrev remaining : ℕ → List Candidate
   remaining = rest rows (g .n) (g .folding) (g .size) k (forced (t .given)) (closed (t .given))
 
   -- the row is at its end
-  pub trying-end : entries ≤ j → stateOf allowance s ≡ whole
+  pub trying-end : entries ≤ j → stateOf (g .allowance) s ≡ whole
   trying-end h =
-      sym (visit-end keepBest allowance (under rows shut g allowance k) partial (wordAt g (suc k) w) (stateOf allowance s))
-      ∙ ap (λ (cs : List Candidate). trial rows shut g allowance k partial w cs (stateOf allowance s)) (sym (rest-end rows _ _ _ k _ _ j (rw (← t .counted) h)))
+      sym (visit-end keepBest (g .allowance) (under rows shut g k) partial (wordAt g (suc k) w) (stateOf (g .allowance) s))
+      ∙ ap (λ (cs : List Candidate). trial rows shut g k partial w cs (stateOf (g .allowance) s)) (sym (rest-end rows _ _ _ k _ _ j (rw (← t .counted) h)))
       ∙ t .same
 
   module _ (h : j < entries) where
@@ -108,7 +108,7 @@ module _ {rows : List (List ℕ)} {change covered shut : List ℕ} {g : Groups} 
           open-right = sym (test ∙ ap (λ (a : ℕ). eqb (bitAnd a (getD shut k 0)) 0) next-is ∙ open-is (t .given) j below)
 
           -- a word with a frozen bit: on to the next entry
-          pub trying-shut : r ≡ false → Trying rows change covered shut g allowance left partial w k size entries first s (j + 1)
+          pub trying-shut : r ≡ false → Trying rows change covered shut g left partial w k size entries first s (j + 1)
           trying-shut q =
               record {
                 given = t .given;
@@ -118,26 +118,26 @@ module _ {rows : List (List ℕ)} {change covered shut : List ℕ} {g : Groups} 
                 tried = omega (arith, below);
                 running = t .running;
                 same =
-                    ap (λ (cs : List Candidate). trial rows shut g allowance k partial w cs (stateOf allowance s)) (sym (rest-shut rows _ _ _ k _ _ j below (open-right ∙ q)))
+                    ap (λ (cs : List Candidate). trial rows shut g k partial w cs (stateOf (g .allowance) s)) (sym (rest-shut rows _ _ _ k _ _ j below (open-right ∙ q)))
                     ∙ t .same;
               }
 
           module _ (q : r ≡ true) where
             -- the candidate and those after it, from the present state
-            opened : trial rows shut g allowance k partial w (here-is ∷ remaining (j + 1)) (some (runningOf s)) ≡ whole
+            opened : trial rows shut g k partial w (here-is ∷ remaining (j + 1)) (some (runningOf s)) ≡ whole
             opened =
-                ap₂ (λ (cs : List Candidate) (o : Option (State keepBest)). trial rows shut g allowance k partial w cs o)
-                (sym (rest-open rows _ _ _ k _ _ j below (open-right ∙ q))) (sym (running-state allowance s (t .running)))
+                ap₂ (λ (cs : List Candidate) (o : Option (State keepBest)). trial rows shut g k partial w cs o)
+                (sym (rest-open rows _ _ _ k _ _ j below (open-right ∙ q))) (sym (running-state (g .allowance) s (t .running)))
                 ∙ t .same
 
             -- the next visit would pass the allowance
-            pub trying-out : allowance < s .visits + 1 → stateOf allowance (once s) ≡ whole
+            pub trying-out : (g .allowance) < s .visits + 1 → stateOf (g .allowance) (once s) ≡ whole
             trying-out out =
-                ended-state allowance (once s) out
-                ∙ sym (visit-out keepBest allowance (under rows shut g allowance k) partial (wordAt g (suc k) w) _ _ (runningOf s) (omega (arith, out))) ∙ opened
+                ended-state (g .allowance) (once s) out
+                ∙ sym (visit-out keepBest (g .allowance) (under rows shut g k) partial (wordAt g (suc k) w) _ _ (runningOf s) (omega (arith, out))) ∙ opened
 
-            module _ (within : s .visits + 1 ≤ allowance) (total : ℕ) (summed : total ≡ partial + e / 256) where
-              allowed : s .visits < allowance
+            module _ (within : s .visits + 1 ≤ (g .allowance)) (total : ℕ) (summed : total ≡ partial + e / 256) where
+              allowed : s .visits < (g .allowance)
               allowed = omega (arith, within)
 
               total-right : total ≡ partial + here-is .branch
@@ -145,31 +145,31 @@ module _ {rows : List (List ℕ)} {change covered shut : List ℕ} {g : Groups} 
               total-right = summed ∙ total-is
 
               -- the visit is counted, and the node is left
-              pub trying-cut : isFarther (keptOf s) total ≡ true → stateOf allowance (once s) ≡ whole
+              pub trying-cut : isFarther (keptOf s) total ≡ true → stateOf (g .allowance) (once s) ≡ whole
               trying-cut far =
-                  once-counted allowance s within
-                  ∙ sym (visit-cut keepBest allowance (under rows shut g allowance k) partial (wordAt g (suc k) w) _ _ (runningOf s) allowed (rw (← total-right) far))
+                  once-counted (g .allowance) s within
+                  ∙ sym (visit-cut keepBest (g .allowance) (under rows shut g k) partial (wordAt g (suc k) w) _ _ (runningOf s) allowed (rw (← total-right) far))
                   ∙ opened
 
               -- the walk went down one level and came back
               module _ (near : isFarther (keptOf s) total ≡ false) (back : Walked)
-                  (came : stateOf allowance back ≡ wholly rows shut g allowance k total after (stateOf allowance (once s))) where
-                onwards : trial rows shut g allowance k partial w (remaining (j + 1)) (stateOf allowance back) ≡ whole
+                  (came : stateOf (g .allowance) back ≡ wholly rows shut g k total after (stateOf (g .allowance) (once s))) where
+                onwards : trial rows shut g k partial w (remaining (j + 1)) (stateOf (g .allowance) back) ≡ whole
                 onwards =
-                    ap (trial rows shut g allowance k partial w (remaining (j + 1)))
-                    (came ∙ ap₂ (λ (p : ℕ) (o : Option (State keepBest)). under rows shut g allowance k p (wordAt g k after) o) total-right (once-counted allowance s within)
-                    ∙ ap (λ (d : ℕ). under rows shut g allowance k (partial + here-is .branch) d (some (count (runningOf s)))) (ap (wordAt g k) next-is ∙ fills (t .given) j below))
-                    ∙ sym (visit-down keepBest allowance (under rows shut g allowance k) partial (wordAt g (suc k) w) _ _ (runningOf s) allowed (rw (← total-right) near))
+                    ap (trial rows shut g k partial w (remaining (j + 1)))
+                    (came ∙ ap₂ (λ (p : ℕ) (o : Option (State keepBest)). under rows shut g k p (wordAt g k after) o) total-right (once-counted (g .allowance) s within)
+                    ∙ ap (λ (d : ℕ). under rows shut g k (partial + here-is .branch) d (some (count (runningOf s)))) (ap (wordAt g k) next-is ∙ fills (t .given) j below))
+                    ∙ sym (visit-down keepBest (g .allowance) (under rows shut g k) partial (wordAt g (suc k) w) _ _ (runningOf s) allowed (rw (← total-right) near))
                     ∙ opened
 
                 -- the allowance was used up below
-                pub trying-stopped : allowance < back .visits → stateOf allowance back ≡ whole
+                pub trying-stopped : (g .allowance) < back .visits → stateOf (g .allowance) back ≡ whole
                 trying-stopped off =
-                    ended-state allowance back off ∙ sym (visit-stopped keepBest allowance (under rows shut g allowance k) partial (wordAt g (suc k) w) (remaining (j + 1)))
-                    ∙ ap (trial rows shut g allowance k partial w (remaining (j + 1))) (sym (ended-state allowance back off)) ∙ onwards
+                    ended-state (g .allowance) back off ∙ sym (visit-stopped keepBest (g .allowance) (under rows shut g k) partial (wordAt g (suc k) w) (remaining (j + 1)))
+                    ∙ ap (trial rows shut g k partial w (remaining (j + 1))) (sym (ended-state (g .allowance) back off)) ∙ onwards
 
                 -- on to the next entry
-                pub trying-back : back .visits ≤ allowance → Trying rows change covered shut g allowance left partial w k size entries first back (j + 1)
+                pub trying-back : back .visits ≤ (g .allowance) → Trying rows change covered shut g left partial w k size entries first back (j + 1)
                 trying-back still =
                     record {
                       given = t .given;
@@ -182,28 +182,28 @@ module _ {rows : List (List ℕ)} {change covered shut : List ℕ} {g : Groups} 
                     }
 
 -- a node with no level left keeps the word or not
-pub at-leaf : {rows : List (List ℕ)} {change covered shut : List ℕ} {g : Groups} {allowance left partial w : ℕ} {s : Walked}
-    → Given rows change covered shut g allowance left partial w s → left ≡ 0 → (back : Walked)
+pub at-leaf : {rows : List (List ℕ)} {change covered shut : List ℕ} {g : Tree} {left partial w : ℕ} {s : Walked}
+    → Given rows change covered shut g left partial w s → left ≡ 0 → (back : Walked)
     → (keptOf back ≡ keep partial w (keptOf s)) × (back .visits ≡ s .visits)
-    → stateOf allowance back ≡ wholly rows shut g allowance left partial w (stateOf allowance s)
-at-leaf {rows} {shut = shut} {g = g} {allowance} {left} {partial} {w} {s} given none-left back kept =
+    → stateOf (g .allowance) back ≡ wholly rows shut g left partial w (stateOf (g .allowance) s)
+at-leaf {rows} {shut = shut} {g = g} {left} {partial} {w} {s} given none-left back kept =
     let own : wordAt g 0 w ≡ w = decided-all (g .n) (g .folding) (given .tables .grouped .fits) w (given .begun .small) in
-    running-state allowance back (rw (kept .1) (given .running))
+    running-state (g .allowance) back (rw (kept .1) (given .running))
     ∙ (λ i. some (record { kept = (kept .0 ∙ ap (λ (v : ℕ). keep partial v (keptOf s)) (sym own)) i; visits = kept .1 i }))
-    ∙ sym (walk-last keepBest allowance (rowCandidates rows shut g) partial (wordAt g 0 w) (runningOf s))
-    ∙ ap₂ (λ (l : ℕ) (o : Option (State keepBest)). wholly rows shut g allowance l partial w o) (sym none-left) (sym (running-state allowance s (given .running)))
+    ∙ sym (walk-last keepBest (g .allowance) (rowCandidates rows shut g) partial (wordAt g 0 w) (runningOf s))
+    ∙ ap₂ (λ (l : ℕ) (o : Option (State keepBest)). wholly rows shut g l partial w o) (sym none-left) (sym (running-state (g .allowance) s (given .running)))
 
-module _ {rows : List (List ℕ)} {change covered shut : List ℕ} {g : Groups} {allowance left partial w : ℕ} {s : Walked}
-    (given : Given rows change covered shut g allowance left partial w s) (some-left : left ≡ 0 → ⊥) where
+module _ {rows : List (List ℕ)} {change covered shut : List ℕ} {g : Tree} {left partial w : ℕ} {s : Walked}
+    (given : Given rows change covered shut g left partial w s) (some-left : left ≡ 0 → ⊥) where
   levels-left : left ≡ suc (left - 1)
   levels-left = omega arith
 
   -- what is given where levels are left, by the group that is decided next
-  pub given-next : Given rows change covered shut g allowance (suc (left - 1)) partial w s
+  pub given-next : Given rows change covered shut g (suc (left - 1)) partial w s
   given-next = rw levels-left at given
 
   -- the loop begins
-  pub trying-none : Trying rows change covered shut g allowance left partial w (left - 1) (g .size) (1 * 2 ^ (g .size) % 2 ^ 64) s s 0
+  pub trying-none : Trying rows change covered shut g left partial w (left - 1) (g .size) (1 * 2 ^ (g .size) % 2 ^ 64) s s 0
   trying-none =
       record {
         given = given-next;
@@ -213,7 +213,7 @@ module _ {rows : List (List ℕ)} {change covered shut : List ℕ} {g : Groups} 
         tried = omega arith;
         running = given .running;
         same =
-            ap (λ (cs : List Candidate). trial rows shut g allowance (left - 1) partial w cs (stateOf allowance s)) (sym (here given-next))
-            ∙ sym (walk-node keepBest allowance (rowCandidates rows shut g) (left - 1) partial (wordAt g (suc (left - 1)) w) (stateOf allowance s))
-            ∙ ap (λ (l : ℕ). wholly rows shut g allowance l partial w (stateOf allowance s)) (sym levels-left);
+            ap (λ (cs : List Candidate). trial rows shut g (left - 1) partial w cs (stateOf (g .allowance) s)) (sym (here given-next))
+            ∙ sym (walk-node keepBest (g .allowance) (rowCandidates rows shut g) (left - 1) partial (wordAt g (suc (left - 1)) w) (stateOf (g .allowance) s))
+            ∙ ap (λ (l : ℕ). wholly rows shut g l partial w (stateOf (g .allowance) s)) (sym levels-left);
       }

@@ -1,4 +1,4 @@
--- The groups of a folding as the code holds them, and what its tables hold for each group or pattern.
+-- The tree of a folding as the code holds it, and what its tables hold for each group or pattern.
 use Prim.Native.Nat.{ℕ, _+_, _^_, _≤_, _<_}
 use mathlib.Core.Path.{_≡_}
 use mathlib.Core.List.{List}
@@ -7,23 +7,24 @@ use lib.ListN.{getD}
 use Rattle.rules.specs.Folding as rules
 use Rattle.laws.specs.Decided.{changeOf, shutOf}
 use Rattle.laws.specs.Copied.{spreadOf}
-use Rattle.tree.specs.declared.group.Groups.{Groups}
+use Rattle.tree.specs.declared.group.Tree.{Tree}
 
--- n up to 6, a folding of at most three ones, the size of its groups and their number
-pub record Grouped (g : Groups) : Type 0 where
+-- n up to 6, a folding of at most three ones, the size of its groups and their number, and an allowance of 32 bits
+pub record Grouped (g : Tree) : Type 0 where
   pub small : g .n ≤ 6
   pub fits : g .folding < 2 ^ (g .n)
   pub few : ones (g .folding) ≤ 3
   pub sized : g .size ≡ 2 ^ ones (g .folding)
-  pub all : g .count ≡ rules.groups (g .n) (g .folding)
+  pub bounded : g .allowance < 2 ^ 32
+  pub all : g .groups ≡ rules.groups (g .n) (g .folding)
 
 -- for each group, the codeword of its smallest index alone
-abbrev pub Covered : List ℕ → Groups → Type 0
-Covered l g = (k : ℕ) → k < g .count → getD l k 0 ≡ spreadOf (g .n) (g .folding) k
+abbrev pub Covered : List ℕ → Tree → Type 0
+Covered l g = (k : ℕ) → k < g .groups → getD l k 0 ≡ spreadOf (g .n) (g .folding) k
 
 -- for each group, its indices that are frozen in a mask
-abbrev pub Shut : List ℕ → Groups → ℕ → Type 0
-Shut l g mask = (k : ℕ) → k < g .count → getD l k 0 ≡ shutOf (g .n) (g .folding) mask k
+abbrev pub Shut : List ℕ → Tree → ℕ → Type 0
+Shut l g mask = (k : ℕ) → k < g .groups → getD l k 0 ≡ shutOf (g .n) (g .folding) mask k
 
 -- the first m words, and behind them what a function makes of each
 pub record Doubled (before after : List ℕ) (m : ℕ) (f : ℕ → ℕ) : Type 0 where
@@ -31,5 +32,5 @@ pub record Doubled (before after : List ℕ) (m : ℕ) (f : ℕ → ℕ) : Type 
   pub added : (u : ℕ) → u < m → getD after (m + u) 0 ≡ f (getD before u 0)
 
 -- for each pattern, the word whose codeword has it in group 0 and zeros elsewhere
-abbrev pub Changes : List ℕ → Groups → Type 0
+abbrev pub Changes : List ℕ → Tree → Type 0
 Changes l g = (u : ℕ) → u < 2 ^ (g .size) → getD l u 0 ≡ changeOf (g .n) (g .folding) 0 u

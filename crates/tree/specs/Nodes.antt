@@ -9,7 +9,7 @@ use Rattle.laws.specs.SeatWords.{seat}
 use Rattle.laws.specs.SeatedRow.{blockOf, entryCandidates}
 use Rattle.tree.specs.Grouping.{Grouped, Covered, Shut, Changes}
 use Rattle.tree.specs.Tables.{entryAt, rowAt}
-use Rattle.tree.specs.declared.group.Groups.{Groups}
+use Rattle.tree.specs.declared.group.Tree.{Tree}
 use Rattle.tree.specs.declared.state.Walked.{Walked}
 
 -- the greatest cost of a slot
@@ -17,7 +17,7 @@ abbrev pub most : ℕ
 most = 1638400
 
 -- the candidates of group k after the word d, from the table's row and the group's frozen indices
-unfoldable pub rowCandidates : List (List ℕ) → List ℕ → Groups → ℕ → ℕ → List Candidate
+unfoldable pub rowCandidates : List (List ℕ) → List ℕ → Tree → ℕ → ℕ → List Candidate
 rowCandidates rows shut g k d =
     entryCandidates (g .n) (g .folding) (g .size) k
     (blockOf (g .size) k (codeword (g .n) (seat (g .n) (g .folding) d)))
@@ -25,24 +25,23 @@ rowCandidates rows shut g k d =
     (rowAt rows (g .size) k)
 
 -- what the tables of a walk hold
-pub record Tabled (rows : List (List ℕ)) (change covered shut : List ℕ) (g : Groups) : Type 0 where
+pub record Tabled (rows : List (List ℕ)) (change covered shut : List ℕ) (g : Tree) : Type 0 where
   pub grouped : Grouped g
-  pub near : (k j : ℕ) → k < g .count → j < 2 ^ (g .size) → entryAt rows (g .size) k j / 256 ≤ g .size * most
-  pub narrow : (k j : ℕ) → k < g .count → j < 2 ^ (g .size) → entryAt rows (g .size) k j % 256 < 2 ^ (g .size)
+  pub near : (k j : ℕ) → k < g .groups → j < 2 ^ (g .size) → entryAt rows (g .size) k j / 256 ≤ g .size * most
+  pub narrow : (k j : ℕ) → k < g .groups → j < 2 ^ (g .size) → entryAt rows (g .size) k j % 256 < 2 ^ (g .size)
   pub changes : Changes change g
   pub copied : Covered covered g
   pub frozen : (mask : ℕ) × Shut shut g mask
 
 -- a word whose codeword is zero in the groups that are left, and room for the distances that these can add
-pub record Begun (g : Groups) (left partial w : ℕ) : Type 0 where
-  pub within : left ≤ g .count
+pub record Begun (g : Tree) (left partial w : ℕ) : Type 0 where
+  pub within : left ≤ g .groups
   pub small : w < 2 ^ (2 ^ (g .n))
   pub blank : Blank (g .n) (g .folding) left w
   pub room : partial + left * (g .size * most) < 2 ^ 32
 
 -- all that a node is given
-pub record Given (rows : List (List ℕ)) (change covered shut : List ℕ) (g : Groups) (allowance left partial w : ℕ) (s : Walked) : Type 0 where
+pub record Given (rows : List (List ℕ)) (change covered shut : List ℕ) (g : Tree) (left partial w : ℕ) (s : Walked) : Type 0 where
   pub tables : Tabled rows change covered shut g
-  pub bounded : allowance < 2 ^ 32
   pub begun : Begun g left partial w
-  pub running : s .visits ≤ allowance
+  pub running : s .visits ≤ g .allowance

@@ -6,7 +6,7 @@ ghost use lib.Count.{ones};
 ghost use Rattle.word.specs.Words.{wordOf};
 ghost use Rattle.tree.specs.Grouping.{Grouped, Shut};
 ghost use Rattle.tree.specs.Empty.{FewShut, FirstEmpty};
-use crate::group::Groups;
+use crate::group::Tree;
 use word::Word;
 
 // How many fillings a group has: two to the number of its unfrozen indices.
@@ -18,17 +18,17 @@ fn fillings(shut: Word, size: usize) -> u32
 }
 
 // The first level whose group has no filling, or the number of levels. Level 0 decides the last group, and so on down.
-pub(crate) fn first_empty(shut: &[Word; 64], groups: Groups) -> usize
-    requires { ⌜ Grouped groups × FewShut (now shut) groups ⌝ }
-    ensures { λ r. ⌜ ((mask : ℕ) → Shut (now (shut .entry)) groups mask → FirstEmpty (groups .n) mask (groups .folding) (groups .count) r) ⌝ }
+pub(crate) fn first_empty(shut: &[Word; 64], tree: Tree) -> usize
+    requires { ⌜ Grouped tree × FewShut (now shut) tree ⌝ }
+    ensures { λ r. ⌜ ((mask : ℕ) → Shut (now (shut .entry)) tree mask → FirstEmpty (tree .n) mask (tree .folding) (tree .groups) r) ⌝ }
 {
     let mut level = 0;
-    while level < groups.count {
-        let group = groups.count - 1 - level;
-        if fillings(shut[group], groups.size) == 0 {
+    while level < tree.groups {
+        let group = tree.groups - 1 - level;
+        if fillings(shut[group], tree.size) == 0 {
             return level;
         }
         level += 1;
     }
-    groups.count
+    tree.groups
 }

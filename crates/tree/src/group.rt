@@ -11,37 +11,39 @@ ghost use Rattle.tree.specs.Seating.{Seated};
 ghost use Rattle.tree.specs.Grouping.{Grouped, Covered, Shut, Doubled, Changes};
 use word::Word;
 
-// n, the folding, how many indices a group has, and how many groups there are.
-pub(crate) struct Groups {
+// A tree: n, the folding, how many indices a group has, how many groups there are, and how many visits are allowed.
+pub(crate) struct Tree {
     pub(crate) n: u32,
     pub(crate) folding: u32,
     pub(crate) size: usize,
-    pub(crate) count: usize,
+    pub(crate) groups: usize,
+    pub(crate) allowance: u64,
 }
 
-// All groups of a folding.
-pub(crate) fn all_groups(n: u32, folding: u32) -> Groups
+// The tree of a folding.
+pub(crate) fn folded(n: u32, folding: u32, allowance: u32) -> Tree
     requires { ⌜ (n ≤ 6) × (folding < 2 ^ n) × (ones folding ≤ 3) ⌝ }
-    ensures { λ r. ⌜ (r .n ≡ n) × (r .folding ≡ folding) × Grouped r ⌝ }
+    ensures { λ r. ⌜ (r .n ≡ n) × (r .folding ≡ folding) × (r .allowance ≡ allowance) × Grouped r ⌝ }
 {
     let size: usize = 1 << word::count::folding_size(folding);
-    let count = word::slots(n) / size;
-    Groups {
+    let groups = word::slots(n) / size;
+    Tree {
         n,
         folding,
         size,
-        count,
+        groups,
+        allowance: allowance as u64,
     }
 }
 
 // The indices of group 0, a one at each.
-fn first_group(index: &[usize; 64], groups: Groups) -> Word
-    requires { ⌜ Grouped groups × Seated (now index) (groups .n) (groups .folding) ⌝ }
-    ensures { λ r. ⌜ wordOf r ≡ unseat (groups .n) (groups .folding) (2 ^ (groups .size) - 1) ⌝ }
+fn first_group(index: &[usize; 64], tree: Tree) -> Word
+    requires { ⌜ Grouped tree × Seated (now index) (tree .n) (tree .folding) ⌝ }
+    ensures { λ r. ⌜ wordOf r ≡ unseat (tree .n) (tree .folding) (2 ^ (tree .size) - 1) ⌝ }
 {
     let mut r: Word = 0;
     let mut t = 0;
-    while t < groups.size {
+    while t < tree.size {
         r = word::xor(r, word::place::above(1, index[t]));
         t += 1;
     }
@@ -49,15 +51,15 @@ fn first_group(index: &[usize; 64], groups: Groups) -> Word
 }
 
 // The frozen indices of each group.
-pub(crate) fn shut(index: &[usize; 64], groups: Groups, frozen: Word) -> [Word; 64]
-    requires { ⌜ Grouped groups × Seated (now index) (groups .n) (groups .folding) ⌝ }
-    ensures { λ r. ⌜ Shut r groups (wordOf frozen) ⌝ }
+pub(crate) fn shut(index: &[usize; 64], tree: Tree, frozen: Word) -> [Word; 64]
+    requires { ⌜ Grouped tree × Seated (now index) (tree .n) (tree .folding) ⌝ }
+    ensures { λ r. ⌜ Shut r tree (wordOf frozen) ⌝ }
 {
-    let own = first_group(index, groups);
+    let own = first_group(index, tree);
     let mut r = [0u64; 64];
     let mut k = 0;
-    while k < groups.count {
-        let first = k * groups.size;
+    while k < tree.groups {
+        let first = k * tree.size;
         r[k] = word::common(frozen, word::place::above(own, index[first]));
         k += 1;
     }
@@ -79,15 +81,15 @@ fn double_moved(words: &mut [Word], m: usize, step: usize)
 
 // For each group, the codeword of its smallest index alone: a one at the smallest index of each group that it covers.
 // A group with a one bit more covers what the rest of it covers, and the same moved up by the smallest index of that bit alone.
-pub(crate) fn covered(index: &[usize; 64], groups: Groups) -> [Word; 64]
-    requires { ⌜ Grouped groups × Seated (now index) (groups .n) (groups .folding) ⌝ }
-    ensures { λ r. ⌜ Covered r groups ⌝ }
+pub(crate) fn covered(index: &[usize; 64], tree: Tree) -> [Word; 64]
+    requires { ⌜ Grouped tree × Seated (now index) (tree .n) (tree .folding) ⌝ }
+    ensures { λ r. ⌜ Covered r tree ⌝ }
 {
     let mut r = [0u64; 64];
     r[0] = 1;
     let mut m = 1;
-    while m < groups.count {
-        let first = m * groups.size;
+    while m < tree.groups {
+        let first = m * tree.size;
         double_moved(&mut r, m, index[first]);
         m = m * 2;
     }
@@ -108,13 +110,13 @@ fn double_words(words: &mut [Word], m: usize, column: Word)
 
 // For each pattern, the word whose codeword has it in group 0 and zeros elsewhere.
 // One slot more doubles the patterns: to those with its bit the codeword of its index is added.
-pub(crate) fn changes(index: &[usize; 64], groups: Groups) -> [Word; 256]
-    requires { ⌜ Grouped groups × Seated (now index) (groups .n) (groups .folding) ⌝ }
-    ensures { λ r. ⌜ Changes r groups ⌝ }
+pub(crate) fn changes(index: &[usize; 64], tree: Tree) -> [Word; 256]
+    requires { ⌜ Grouped tree × Seated (now index) (tree .n) (tree .folding) ⌝ }
+    ensures { λ r. ⌜ Changes r tree ⌝ }
 {
     let mut r = [0u64; 256];
     let mut t = 0;
-    while t < groups.size {
+    while t < tree.size {
         let column = word::matrix::map(word::place::above(1, index[t]));
         double_words(&mut r, 1 << t, column);
         t += 1;

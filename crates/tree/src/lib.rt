@@ -35,17 +35,17 @@ fn search(n: u32, levels: &[i32], frozen: Word, folding: u32, allowance: u32) ->
     requires { ⌜ Searchable n (now levels) folding ⌝ }
     ensures { λ r. ⌜ answerOf r ≡ searchAnswer n (now (levels .entry)) (wordOf frozen) folding allowance ⌝ }
 {
-    let groups = group::all_groups(n, folding);
+    let tree = group::folded(n, folding, allowance);
     let index = seat::seats(n, folding);
-    let shut = group::shut(&index, groups, frozen);
-    let empty = empty::first_empty(&shut, groups);
-    if empty < groups.count {
+    let shut = group::shut(&index, tree, frozen);
+    let empty = empty::first_empty(&shut, tree);
+    if empty < tree.groups {
         return Answer::Refused(Refusal::NoCandidate(empty));
     }
-    let rows = row::rows(levels, &index, groups.count, groups.size);
-    let change = group::changes(&index, groups);
-    let covered = group::covered(&index, groups);
-    let end = walk::walk(&rows, &change, &covered, &shut, groups, allowance as u64);
+    let rows = row::rows(levels, &index, tree.groups, tree.size);
+    let change = group::changes(&index, tree);
+    let covered = group::covered(&index, tree);
+    let end = walk::walk(&rows, &change, &covered, &shut, tree);
     if state::used_up(end, allowance as u64) {
         return Answer::Refused(Refusal::Allowance);
     }

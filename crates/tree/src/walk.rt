@@ -14,7 +14,7 @@ ghost use Rattle.word.specs.Words.{wordOf};
 ghost use Rattle.tree.specs.States.{empty, stateOf};
 ghost use Rattle.tree.specs.Tables.{Inside, entryAt};
 ghost use Rattle.tree.specs.Nodes.{Tabled, Given, rowCandidates};
-use crate::group::Groups;
+use crate::group::Tree;
 use crate::state::Walked;
 use crate::state::farther;
 use crate::state::keep_word;
@@ -55,21 +55,20 @@ fn node(
     change: &[Word; 256],
     covered: &[Word; 64],
     shut: &[Word; 64],
-    groups: Groups,
-    allowance: u64,
+    tree: Tree,
     left: usize,
     partial: u64,
     w: Word,
     state: Walked,
 ) -> Walked
-    requires { ⌜ Given (now rows) (now change) (now covered) (now shut) groups allowance left partial (wordOf w) state ⌝ }
-    ensures { λ r. ⌜ stateOf allowance r ≡ walkIn keepBest allowance (rowCandidates (now (rows .entry)) (now (shut .entry)) groups) left partial (decided (groups .n) (groups .folding) left (wordOf w)) (stateOf allowance state) ⌝ }
+    requires { ⌜ Given (now rows) (now change) (now covered) (now shut) tree left partial (wordOf w) state ⌝ }
+    ensures { λ r. ⌜ stateOf (tree .allowance) r ≡ walkIn keepBest (tree .allowance) (rowCandidates (now (rows .entry)) (now (shut .entry)) tree) left partial (decided (tree .n) (tree .folding) left (wordOf w)) (stateOf (tree .allowance) state) ⌝ }
 {
     if left == 0 {
         return keep_word(state, partial, w);
     }
     let k = left - 1;
-    let size = groups.size;
+    let size = tree.size;
     let entries: usize = 1 << size;
     let mut s = state;
     let mut j = 0;
@@ -78,26 +77,15 @@ fn node(
         let next = changed(w, change, covered, k, e);
         if is_open(next, shut[k]) {
             s.visits = s.visits + 1;
-            if used_up(s, allowance) {
+            if used_up(s, tree.allowance) {
                 return s;
             }
             let total = partial + e / 256;
             if farther(s, total) {
                 return s;
             }
-            s = node(
-                rows,
-                change,
-                covered,
-                shut,
-                groups,
-                allowance,
-                k,
-                total,
-                next,
-                s,
-            );
-            if used_up(s, allowance) {
+            s = node(rows, change, covered, shut, tree, k, total, next, s);
+            if used_up(s, tree.allowance) {
                 return s;
             }
         }
@@ -112,22 +100,11 @@ pub(crate) fn walk(
     change: &[Word; 256],
     covered: &[Word; 64],
     shut: &[Word; 64],
-    groups: Groups,
-    allowance: u64,
+    tree: Tree,
 ) -> Walked
-    requires { ⌜ Tabled (now rows) (now change) (now covered) (now shut) groups × (allowance < 2 ^ 32) ⌝ }
-    ensures { λ r. ⌜ stateOf allowance r ≡ walkIn keepBest allowance (rowCandidates (now (rows .entry)) (now (shut .entry)) groups) (groups .count) 0 0 (some empty) ⌝ }
+    requires { ⌜ Tabled (now rows) (now change) (now covered) (now shut) tree ⌝ }
+    ensures { λ r. ⌜ stateOf (tree .allowance) r ≡ walkIn keepBest (tree .allowance) (rowCandidates (now (rows .entry)) (now (shut .entry)) tree) (tree .groups) 0 0 (some empty) ⌝ }
 {
-    node(
-        rows,
-        change,
-        covered,
-        shut,
-        groups,
-        allowance,
-        groups.count,
-        0,
-        0,
-        start(),
-    )
+    let levels = tree.groups;
+    node(rows, change, covered, shut, tree, levels, 0, 0, start())
 }

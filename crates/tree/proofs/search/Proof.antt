@@ -10,38 +10,41 @@ use Rattle.tree.specs.Seating.{Seated}
 use Rattle.tree.specs.Grouping.{Grouped}
 use Rattle.tree.specs.Empty.{firstEmpty}
 use Rattle.tree.specs.Search.{Searchable}
-use Rattle.tree.specs.declared.group.Groups.{Groups}
+use Rattle.tree.specs.declared.group.Tree.{Tree}
 use Rattle.tree.proofs.Emptiness.{few-shut}
 use Rattle.tree.proofs.Searching.{levelled, tables-right, walked}
 use Rattle.tree.proofs.Found.{Ends, used-up, enough, distance-fits, visits-fit, found-right, answer-seven, answer-eight, answer-found}
 use Rattle.tree.proofs.search.Statement.{statement}
 use Rattle.tree.proofs.search.Tie as tie
 
--- what holds of one n and folding holds of the same
+-- what holds of two numbers holds of the same
 onto : (P : ℕ → ℕ → Type 0) {a b c d : ℕ} → a ≡ b → c ≡ d → P a c → P b d
 onto P e f x = rw (← e, ← f) x
 
--- after the seats: the groups, which are those of n and the folding, and what is given of these
-abbrev all : tie.After-seats → Groups
-all c = c .before .all-groups .result
+-- after the seats: the tree, which is that of n, the folding and the allowance, and what is given of these
+abbrev tree : tie.After-seats → Tree
+tree c = c .before .folded .result
 
-same-n : (c : tie.After-seats) → all c .n ≡ c .before .before .args .n
-same-n c = c .before .all-groups .ensures .0
+same-n : (c : tie.After-seats) → tree c .n ≡ c .before .before .args .n
+same-n c = c .before .folded .ensures .0
 
-same-folding : (c : tie.After-seats) → all c .folding ≡ c .before .before .args .folding
-same-folding c = c .before .all-groups .ensures .1
+same-folding : (c : tie.After-seats) → tree c .folding ≡ c .before .before .args .folding
+same-folding c = c .before .folded .ensures .1
 
-grouped : (c : tie.After-seats) → Grouped (all c)
-grouped c = c .before .all-groups .ensures .2
+same-allowance : (c : tie.After-seats) → tree c .allowance ≡ c .before .before .args .allowance
+same-allowance c = c .before .folded .ensures .2
 
-given : (c : tie.After-seats) → Searchable (all c .n) (c .before .before .args .levels .now) (all c .folding)
+grouped : (c : tie.After-seats) → Grouped (tree c)
+grouped c = c .before .folded .ensures .3
+
+given : (c : tie.After-seats) → Searchable (tree c .n) (c .before .before .args .levels .now) (tree c .folding)
 given c = onto (λ n folding. Searchable n (c .before .before .args .levels .now) folding) (sym (same-n c)) (sym (same-folding c)) (c .before .before .pre)
 
-seated : (c : tie.After-seats) → Seated (c .seats .result) (all c .n) (all c .folding)
+seated : (c : tie.After-seats) → Seated (c .seats .result) (tree c .n) (tree c .folding)
 seated c = onto (Seated _) (sym (same-n c)) (sym (same-folding c)) (c .seats .ensures)
 
-all-groups-requires : tie.Need-all-groups-requires
-all-groups-requires c κs = search needs
+folded-requires : tie.Need-folded-requires
+folded-requires c κs = search needs
 
 seats-requires : tie.Need-seats-requires
 seats-requires c κs = search needs
@@ -78,10 +81,9 @@ walk-requires c κs =
     let covered = c .before .before .before .before in
     let rows = covered .before .before .before .before in
     let shut = rows .before .before .before .before .before .before in
-    let seats = shut .before .before in (
-      tables-right (grouped seats) (given seats) (seated seats) _ (rows .rows .ensures) _ _ _ _ (covered .before .before .changes .ensures) (covered .covered .ensures) (shut .shut .ensures),
-      seats .before .before .fits .allowance .fits,
-    )
+    let seats = shut .before .before in
+    tables-right (grouped seats) (given seats) (seated seats) _ (rows .rows .ensures) _ _ _ _ (covered .before .before .changes .ensures) (covered .covered .ensures)
+    (shut .shut .ensures)
 
 used-up-requires : tie.Need-used-up-requires
 used-up-requires c κs = search needs
@@ -104,8 +106,9 @@ ends : (c : tie.After-walk)
 ends c =
     let seats = shutting c .before .before in
     let rows = c .before .before .before .before .before .before .before .before .before .rows .ensures in
-    onto (λ n folding. Ends n (begun c .args .frozen) folding (begun c .args .allowance) (begun c .args .levels .now) (c .walk .result)) (same-n seats) (same-folding seats)
-    (c .walk .ensures ∙ walked (grouped seats) (given seats) (seated seats) _ rows _ _ _ (shutting c .shut .ensures))
+    onto (λ n allowance. Ends n (begun c .args .frozen) (begun c .args .folding) allowance (begun c .args .levels .now) (c .walk .result)) (same-n seats) (same-allowance seats)
+    (onto (λ folding _. Ends (tree seats .n) (begun c .args .frozen) folding (tree seats .allowance) (begun c .args .levels .now) (c .walk .result)) (same-folding seats) (same-n seats)
+    (c .walk .ensures ∙ walked (grouped seats) (given seats) (seated seats) _ rows _ _ _ (shutting c .shut .ensures)))
 
 returns-2 : tie.Need-returns-2
 returns-2 c =
@@ -157,7 +160,7 @@ pub search-spec : {M : Type 1} → statement M
 search-spec =
     tie.close
     (tie.spec
-    all-groups-requires
+    folded-requires
     seats-requires
     shut-requires
     first-empty-requires

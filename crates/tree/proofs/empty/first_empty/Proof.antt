@@ -8,10 +8,10 @@ use Rattle.tree.proofs.empty.first_empty.Statement.{statement}
 use Rattle.tree.proofs.empty.first_empty.Tie as tie
 
 abbrev Inv-loop : tie.InvT-loop
-Inv-loop shut groups level₀ level = Passed shut groups level
+Inv-loop shut tree level₀ level = Passed shut tree level
 
 abbrev μ-loop : tie.MeasureT-loop
-μ-loop shut groups level₀ level = groups .count - level
+μ-loop shut tree level₀ level = tree .groups - level
 
 loop-holds : tie.Need-loop-holds Inv-loop μ-loop
 loop-holds c = passed-none (c .pre .0)
@@ -53,7 +53,7 @@ loop-again c =
 
 returns-2 : tie.Need-returns-2 Inv-loop μ-loop
 returns-2 c =
-    let last : c .before .before .loop .level ≡ c .before .before .before .args .groups .count = omega (arith, c .before .before .loop .inv .inside) in
+    let last : c .before .before .loop .level ≡ c .before .before .before .args .tree .groups = omega (arith, c .before .before .loop .inv .inside) in
     found-none (c .before .before .before .pre .0) (rw last at (c .before .before .loop .inv))
 
 pub first-empty-spec : {M : Type 1} → statement M

@@ -12,10 +12,10 @@ use Rattle.tree.proofs.group.changes.Statement.{statement}
 use Rattle.tree.proofs.group.changes.Tie as tie
 
 abbrev Inv-loop : tie.InvT-loop
-Inv-loop index groups r₀ t₀ r t = Changed groups r t
+Inv-loop index tree r₀ t₀ r t = Changed tree r t
 
 abbrev μ-loop : tie.MeasureT-loop
-μ-loop index groups r₀ t₀ r t = groups .size - t
+μ-loop index tree r₀ t₀ r t = tree .size - t
 
 loop-holds : tie.Need-loop-holds Inv-loop μ-loop
 loop-holds c = changed-first _ _ refl refl

@@ -9,10 +9,10 @@ use Rattle.tree.proofs.group.covered.Statement.{statement}
 use Rattle.tree.proofs.group.covered.Tie as tie
 
 abbrev Inv-loop : tie.InvT-loop
-Inv-loop index groups r₀ m₀ r m = Covering groups r m
+Inv-loop index tree r₀ m₀ r m = Covering tree r m
 
 abbrev μ-loop : tie.MeasureT-loop
-μ-loop index groups r₀ m₀ r m = groups .count - m
+μ-loop index tree r₀ m₀ r m = tree .groups - m
 
 array-write-r : tie.Need-array-write-r Inv-loop μ-loop
 array-write-r c = search needs
@@ -21,7 +21,7 @@ loop-holds : tie.Need-loop-holds Inv-loop μ-loop
 loop-holds c = covering-first (c .pre .0) _ refl refl
 
 -- the first seat of group m
-seat-at : (c : tie.After-struct-known2 Inv-loop μ-loop) → c .before .before .before .loop .m * c .before .before .before .before .args .groups .size < 64
+seat-at : (c : tie.After-struct-known2 Inv-loop μ-loop) → c .before .before .before .loop .m * c .before .before .before .before .args .tree .size < 64
 seat-at c = first-seat-fits (c .before .before .before .before .pre .0) (c .before .if1 .taken)
 
 mul-first : tie.Need-mul-first Inv-loop μ-loop

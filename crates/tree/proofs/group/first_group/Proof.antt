@@ -11,10 +11,10 @@ use Rattle.tree.proofs.group.first_group.Statement.{statement}
 use Rattle.tree.proofs.group.first_group.Tie as tie
 
 abbrev Inv-loop : tie.InvT-loop
-Inv-loop index groups r₀ t₀ r t = (t ≤ groups .size) × (r ≡ unseatBelow (groups .n) (groups .folding) (2 ^ groups .size - 1) t)
+Inv-loop index tree r₀ t₀ r t = (t ≤ tree .size) × (r ≡ unseatBelow (tree .n) (tree .folding) (2 ^ tree .size - 1) t)
 
 abbrev μ-loop : tie.MeasureT-loop
-μ-loop index groups r₀ t₀ r t = groups .size - t
+μ-loop index tree r₀ t₀ r t = tree .size - t
 
 loop-holds : tie.Need-loop-holds Inv-loop μ-loop
 unfolding sumBelow

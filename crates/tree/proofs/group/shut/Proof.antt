@@ -12,11 +12,11 @@ use Rattle.tree.proofs.group.shut.Statement.{statement}
 use Rattle.tree.proofs.group.shut.Tie as tie
 
 abbrev Inv-loop : tie.InvT-loop
-Inv-loop index groups frozen own r₀ k₀ r k =
-    (length r ≡ 64) × ((j : ℕ) → j < k → getD r j 0 ≡ shutOf (groups .n) (groups .folding) frozen j)
+Inv-loop index tree frozen own r₀ k₀ r k =
+    (length r ≡ 64) × ((j : ℕ) → j < k → getD r j 0 ≡ shutOf (tree .n) (tree .folding) frozen j)
 
 abbrev μ-loop : tie.MeasureT-loop
-μ-loop index groups frozen own r₀ k₀ r k = groups .count - k
+μ-loop index tree frozen own r₀ k₀ r k = tree .groups - k
 
 first-group-requires : tie.Need-first-group-requires Inv-loop μ-loop
 first-group-requires c κs = c .pre
@@ -29,7 +29,7 @@ small : (c : tie.After-struct-known2 Inv-loop μ-loop) → c .before .before .be
 small c = omega (arith, few-groups (c .before .before .before .before .before .pre .0), c .before .if1 .taken)
 
 -- the first seat of a group
-seat-at : (c : tie.After-struct-known2 Inv-loop μ-loop) → c .before .before .before .loop .k * c .before .before .before .before .before .args .groups .size < 64
+seat-at : (c : tie.After-struct-known2 Inv-loop μ-loop) → c .before .before .before .loop .k * c .before .before .before .before .before .args .tree .size < 64
 seat-at c = first-seat-fits (c .before .before .before .before .before .pre .0) (c .before .if1 .taken)
 
 mul-first : tie.Need-mul-first Inv-loop μ-loop

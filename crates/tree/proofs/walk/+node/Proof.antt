@@ -22,7 +22,7 @@ use Rattle.tree.proofs.walk.+node.{statement}
 use Rattle.tree.proofs.walk.+node.Tie.{close}
 
 abbrev μ-node : Measures 4 node-kinds.ps ℕ
-μ-node κs a = a .1 .1 .1 .1 .1 .1 .0
+μ-node κs a = a .1 .1 .1 .1 .1 .0
 
 abbrev node-at : ℕ → In 4 node-kinds.ps
 node-at t = and 4 node-kinds.ps (is 4 node-kinds.ps μ-node t) node.Pre
@@ -50,11 +50,11 @@ claims t = (
 )
 
 abbrev node-Inv-loop : node-lts.InvT-loop
-node-Inv-loop rows change covered shut groups allowance left partial w k size entries s₀ j₀ s j =
-    Trying rows change covered shut groups allowance left partial w k size entries s₀ s j
+node-Inv-loop rows change covered shut tree left partial w k size entries s₀ j₀ s j =
+    Trying rows change covered shut tree left partial w k size entries s₀ s j
 
 abbrev node-μ-loop : node-lts.MeasureT-loop
-node-μ-loop rows change covered shut groups allowance left partial w k size entries s₀ j₀ s j = entries - j
+node-μ-loop rows change covered shut tree left partial w k size entries s₀ j₀ s j = entries - j
 
 node-keep-word-requires : (t : ℕ) → node-lts.Need-keep-word-requires (claims t) (node-at t) node.Post node-Inv-loop node-μ-loop
 node-keep-word-requires t c κs = omega (arith, c .before .pre .1 .begun .room)
@@ -92,7 +92,7 @@ node-is-open-requires t c κs = search needs
 node-add-s : (t : ℕ) → node-lts.Need-add-s (claims t) (node-at t) node.Post node-Inv-loop node-μ-loop
 node-add-s t c =
     let inv = c .before .before .before .before .before .before .before .loop .inv in
-    omega (arith, inv .running, inv .given .bounded)
+    omega (arith, inv .running, inv .given .tables .grouped .bounded)
 
 node-used-up-requires : (t : ℕ) → node-lts.Need-used-up-requires (claims t) (node-at t) node.Post node-Inv-loop node-μ-loop
 node-used-up-requires t c κs = search needs

@@ -9,7 +9,7 @@ use Rattle.rules.specs.Walk.{State, keepBest}
 use Rattle.laws.specs.Decided.{decided-none, blank-none}
 use Rattle.tree.specs.Grouping.{Grouped}
 use Rattle.tree.specs.Nodes.{Begun, most}
-use Rattle.tree.specs.declared.group.Groups.{Groups}
+use Rattle.tree.specs.declared.group.Tree.{Tree}
 use Rattle.tree.proofs.Tabling.{all-indices}
 use Rattle.tree.proofs.Trying.{running-state, under}
 use borrow.Author.Needs.{needs}
@@ -17,17 +17,17 @@ use Rattle.tree.proofs.walk.walk.Statement.{statement}
 use Rattle.tree.proofs.walk.walk.Tie as tie
 
 -- the word 0, and room for the distance of every slot
-begin : {g : Groups} → Grouped g → Begun g (g .count) 0 0
+begin : {g : Tree} → Grouped g → Begun g (g .groups) 0 0
 begin {g} given =
     record {
-      within = le-refl (g .count);
+      within = le-refl (g .groups);
       small = pow-pos (2 ^ (g .n));
-      blank = blank-none (g .n) (g .folding) (g .count);
+      blank = blank-none (g .n) (g .folding) (g .groups);
       room =
           omega (
             arith,
-            mul-assoc (g .count) (g .size) most,
-            mul-le-mul-right {m = g .count * g .size} {n = 64} most (omega (arith, all-indices given, pow-mono {j = 6} (given .small))),
+            mul-assoc (g .groups) (g .size) most,
+            mul-le-mul-right {m = g .groups * g .size} {n = 64} most (omega (arith, all-indices given, pow-mono {j = 6} (given .small))),
           );
     }
 
@@ -37,16 +37,16 @@ start-requires c κs = search needs
 node-requires : tie.Need-node-requires
 node-requires c κs =
     let given = c .before .pre in
-    record { tables = given .0; bounded = given .1; begun = begin (given .0 .grouped); running = omega (arith, c .start .ensures .1) }
+    record { tables = given; begun = begin (given .grouped); running = omega (arith, c .start .ensures .1) }
 
 returns : tie.Need-returns
 returns c =
     let begun = c .before .start .ensures in
     let args = c .before .before .args in
     c .node .ensures
-    ∙ ap₂ (λ (d : ℕ) (o : Option (State keepBest)). under (args .rows .now) (args .shut .now) (args .groups) (args .allowance) (args .groups .count) 0 d o)
-    (decided-none (args .groups .n) (args .groups .folding) (args .groups .count))
-    (running-state (args .allowance) (c .before .start .result) (omega (arith, begun .1)) ∙ (λ i. some (record { kept = begun .0 i; visits = begun .1 i })))
+    ∙ ap₂ (λ (d : ℕ) (o : Option (State keepBest)). under (args .rows .now) (args .shut .now) (args .tree) (args .tree .groups) 0 d o)
+    (decided-none (args .tree .n) (args .tree .folding) (args .tree .groups))
+    (running-state (args .tree .allowance) (c .before .start .result) (omega (arith, begun .1)) ∙ (λ i. some (record { kept = begun .0 i; visits = begun .1 i })))
 
 pub walk-spec : {M : Type 1} → statement M
 walk-spec = tie.close (tie.spec start-requires node-requires returns)

@@ -1,4 +1,4 @@
--- `tree::group::all_groups` meets its contract.
+-- `tree::group::folded` meets its contract.
 use Prim.Native.Nat.{ℕ, _*_, _/_, _%_, _^_, _≤_}
 use mathlib.Core.Path.{_≡_, refl, ap, ap₂, _∙_}
 use native.Mathlib.Omega.{arith}
@@ -7,8 +7,8 @@ use lib.Pow.{pow-pos}
 use borrow.Author.Needs.{needs}
 use Rattle.laws.specs.Bits.{power-shifted}
 use Rattle.word.specs.Sizes.{slots-are}
-use Rattle.tree.proofs.group.all_groups.Statement.{statement}
-use Rattle.tree.proofs.group.all_groups.Tie as tie
+use Rattle.tree.proofs.group.folded.Statement.{statement}
+use Rattle.tree.proofs.group.folded.Tie as tie
 
 -- a group's size, as the machine shifts it
 size-is : (folding r : ℕ) → ones folding ≤ 3 → r ≡ ones folding → 1 * 2 ^ r % 2 ^ 64 ≡ 2 ^ ones folding
@@ -26,8 +26,8 @@ shl-size c = omega (arith, c .folding-size .ensures, c .before .pre .2)
 slots-requires : tie.Need-slots-requires
 slots-requires c κs = search needs
 
-div-count : tie.Need-div-count
-div-count c = rw (size-is _ _ (c .before .before .pre .2) (c .before .folding-size .ensures)) (pow-pos _)
+div-groups : tie.Need-div-groups
+div-groups c = rw (size-is _ _ (c .before .before .pre .2) (c .before .folding-size .ensures)) (pow-pos _)
 
 returns : tie.Need-returns
 returns c =
@@ -35,15 +35,17 @@ returns c =
     let sized = size-is _ _ (given .2) (c .before .folding-size .ensures) in (
       refl,
       refl,
+      refl,
       record {
         small = given .0;
         fits = given .1;
         few = given .2;
         sized = sized;
+        bounded = c .before .before .fits .allowance .fits;
         all = ap₂ (λ (a b : ℕ). a / b) (slots-are _ _ (given .0) (c .slots .ensures)) sized;
       },
     )
 
-pub all-groups-spec : {M : Type 1} → statement M
-all-groups-spec =
-    tie.close (tie.spec folding-size-requires cast-size shl-size slots-requires div-count returns)
+pub folded-spec : {M : Type 1} → statement M
+folded-spec =
+    tie.close (tie.spec folding-size-requires cast-size shl-size slots-requires div-groups returns)
