@@ -96,6 +96,19 @@ fn add_slot(
     );
 }
 
+// The row of one slot: the entries of both bits, the smaller one first.
+fn fill_pair(row: &mut [u64], levels: &[i32], index: &[usize; 64], first: usize)
+    requires { ⌜ Levelled (now levels) (now index) first 1 × (2 ≤ length (now row)) ⌝ }
+    ensures { λ _. ⌜ now (row .exit) ≡ seatRow (now (levels .entry)) (now (index .entry)) first 1 ++ drop 2 (now (row .entry)) ⌝ }
+{
+    let costs = slot_costs(seat_level(levels, index, first));
+    let x = (costs.zero as u64) * 256;
+    let y = (costs.one as u64) * 256 + 1;
+    let v = least(x, y);
+    row[0] = v;
+    row[1] = x + y - v;
+}
+
 // The row of the group whose first seat is given. Two slots a turn: from the row to the spare one and back.
 fn fill_row(
     row: &mut [u64],
@@ -110,8 +123,7 @@ fn fill_row(
     ensures { λ _. ⌜ now (row .exit) ≡ seatRow (now (levels .entry)) (now (index .entry)) first size ++ drop (2 ^ size) (now (row .entry)) ⌝ }
 {
     if size == 1 {
-        spare[0] = 0;
-        add_slot(spare, row, 0, levels, index, first);
+        fill_pair(row, levels, index, first);
         return;
     }
     row[0] = 0;

@@ -23,29 +23,17 @@ Inv-loop row₀ spare₀ levels index first size t₀ row spare t =
 abbrev μ-loop : tie.MeasureT-loop
 μ-loop row₀ spare₀ levels index first size t₀ row spare t = size - t
 
-slice-write-spare : tie.Need-slice-write-spare Inv-loop μ-loop
-slice-write-spare c = let s = c .before .before .before in le-trans (pow-pos (s .args .size)) (s .pre .1 .1)
-
-add-slot-requires : tie.Need-add-slot-requires Inv-loop μ-loop
-add-slot-requires c κs =
-    let s = c .before .before .before .before .before in
-    let one : 1 ≤ s .args .size = omega (arith, c .before .before .if1 .taken) in
-    let some = le-trans (pow-pos (s .args .size)) (s .pre .1 .1) in (
-      (omega arith, seats-fewer 1 one (s .pre .0 .1)),
-      (
-        (room-more {t = 0} one (s .pre .1 .1) (length-set (s .args .spare .now) 0 0), room one (s .pre .1 .0) refl),
-        built-take _ 0 (set (s .args .spare .now) 0 0) (built-none _ (s .args .spare .now) some),
-      ),
-    )
+fill-pair-requires : tie.Need-fill-pair-requires Inv-loop μ-loop
+fill-pair-requires c κs =
+    let s = c .before .before .before .before in
+    let one : s .args .size ≡ 1 = c .before .if1 .taken in
+    (rw one at (s .pre .0 .1), rw one at (s .pre .1 .0))
 
 same-length : tie.Need-same-length Inv-loop μ-loop
 same-length c = search needs
 
-same-length-2 : tie.Need-same-length-2 Inv-loop μ-loop
-same-length-2 c = search needs
-
 returns : tie.Need-returns Inv-loop μ-loop
-returns c = rw (c .before .before .before .before .before .if1 .taken) (c .before .before .add-slot .ensures)
+returns c = rw (c .before .before .before .before .if1 .taken) (c .before .before .fill-pair .ensures)
 
 slice-write-row : tie.Need-slice-write-row Inv-loop μ-loop
 slice-write-row c = let s = c .before .before .before in le-trans (pow-pos (s .args .size)) (s .pre .1 .0)
@@ -55,8 +43,8 @@ loop-holds c =
     let s = c .before .before .before in
     (omega arith, refl, refl, refl, built-none _ (s .args .row .now) (le-trans (pow-pos (s .args .size)) (s .pre .1 .0)))
 
-add-slot-requires-2 : tie.Need-add-slot-requires-2 Inv-loop μ-loop
-add-slot-requires-2 c κs =
+add-slot-requires : tie.Need-add-slot-requires Inv-loop μ-loop
+add-slot-requires c κs =
     let l = c .before .before .before .loop in
     let s = c .before .before .before .before .before .before .before in
     let less = c .before .before .loop-test .taken in
@@ -68,8 +56,8 @@ add-slot-requires-2 c κs =
 add-add-slot : tie.Need-add-add-slot Inv-loop μ-loop
 add-add-slot c = search needs
 
-add-slot-requires-3 : tie.Need-add-slot-requires-3 Inv-loop μ-loop
-add-slot-requires-3 c κs =
+add-slot-requires-2 : tie.Need-add-slot-requires-2 Inv-loop μ-loop
+add-slot-requires-2 c κs =
     let l = c .before .before .before .before .before .before .before .before in
     let s = c .before .before .before .before .before .before .before .before .before .before .before .before in
     let t = l .loop .t in
@@ -78,7 +66,7 @@ add-slot-requires-3 c κs =
     let next : suc (t + 1) ≤ s .args .size = omega (arith, size-even (s .pre .0 .0) (l .before .if1 .left)) in
     let fewer : suc t < s .args .size = omega (arith, next) in
     let long = l .loop .inv .2 ∙ length-set (s .args .row .now) 0 0 in
-    let step = c .before .before .before .before .add-slot2 in (
+    let step = c .before .before .before .before .add-slot in (
       (omega (arith, size-small (s .pre .0 .0)), seats-fewer (suc (t + 1)) next (s .pre .0 .1)),
       (
         (rw (add-one t) (room-more fewer (s .pre .1 .1) (step .kept .1 .0 ∙ l .loop .inv .3)), room next (s .pre .1 .0) long),
@@ -100,16 +88,16 @@ loop-again c =
     let next : t + 2 ≡ suc (t + 1) = omega arith in (
       omega (arith, size-even (s .pre .0 .0) (l .before .if1 .left)),
       omega arith,
-      c .before .before .add-slot3 .kept .1 .0 ∙ l .loop .inv .2,
-      c .before .before .before .before .before .before .before .add-slot2 .kept .1 .0 ∙ l .loop .inv .3,
-      rw next (built-more _ t (set (s .args .row .now) 0 0) (l .loop .inv .4) (suc (t + 1)) (omega arith) (c .before .before .add-slot3 .ensures)),
+      c .before .before .add-slot2 .kept .1 .0 ∙ l .loop .inv .2,
+      c .before .before .before .before .before .before .before .add-slot .kept .1 .0 ∙ l .loop .inv .3,
+      rw next (built-more _ t (set (s .args .row .now) 0 0) (l .loop .inv .4) (suc (t + 1)) (omega arith) (c .before .before .add-slot2 .ensures)),
     )
 
-same-length-3 : tie.Need-same-length-3 Inv-loop μ-loop
-same-length-3 c = c .before .loop .inv .2 ∙ length-set (c .before .before .before .before .before .args .row .now) 0 0
+same-length-2 : tie.Need-same-length-2 Inv-loop μ-loop
+same-length-2 c = c .before .loop .inv .2 ∙ length-set (c .before .before .before .before .before .args .row .now) 0 0
 
-same-length-4 : tie.Need-same-length-4 Inv-loop μ-loop
-same-length-4 c = search needs
+same-length-3 : tie.Need-same-length-3 Inv-loop μ-loop
+same-length-3 c = search needs
 
 returns-2 : tie.Need-returns-2 Inv-loop μ-loop
 returns-2 c =
@@ -125,19 +113,17 @@ fill-row-spec =
     (tie.spec
     Inv-loop
     μ-loop
-    slice-write-spare
-    add-slot-requires
+    fill-pair-requires
     same-length
-    same-length-2
     returns
     slice-write-row
     loop-holds
-    add-slot-requires-2
+    add-slot-requires
     add-add-slot
-    add-slot-requires-3
+    add-slot-requires-2
     add-t
     loop-less
     loop-again
+    same-length-2
     same-length-3
-    same-length-4
     returns-2)
