@@ -14,7 +14,7 @@ use Rattle.rules.specs.Below.{sumBelow}
 use Rattle.rules.specs.Word.{bit, covers, codeBit, codeword}
 use Rattle.laws.specs.Sums.{sum-cong, sum-zero, sum-split, sum-mul, sum-single}
 use Rattle.laws.specs.Bits.{bit-zero, bit-beyond, bit-low, bit-high, bit-mod, bit-div, bit-and, bit-xor, bit-ext, covers-refl, covers-block}
-use Rattle.laws.specs.Matrix.{codeword-lt, codeword-bit, code-bit-xor, codeword-xor, codeword-one}
+use Rattle.laws.specs.Matrix.{codeword-bit, code-bit-xor, codeword-one}
 
 -- a sum block by block
 sum-blocks : (L s : ℕ) (g : ℕ → ℕ) → sumBelow (L * s) g ≡ sumBelow L (λ a. sumBelow s (λ r. g (a * s + r)))
@@ -94,24 +94,16 @@ module _ (n f k : ℕ) (fits : f ≤ n) (hk : k < 2 ^ (n - f)) where
   unfolding copies
   block-code v hv = copied v hv ∙ ap (λ (x : ℕ). codeword f v * x) (sym block-start)
 
-  -- and it has 2 ^ n bits
-  pub block-code-lt : (v : ℕ) → v < 2 ^ (2 ^ f) → codeword f v * codeword n (2 ^ (k * 2 ^ f)) < 2 ^ (2 ^ n)
-  block-code-lt v hv = rw (← block-code v hv) (codeword-lt n (v * 2 ^ (k * 2 ^ f)))
-
   module _ (w v : ℕ) (clear : (i : ℕ) → i < suc k * 2 ^ f → bit w i ≡ 0) (hv : v < 2 ^ (2 ^ f)) where
     -- block k is added to a word that has no ones there or below
-    pub block-xor : w + v * 2 ^ (k * 2 ^ f) ≡ bitXor w (v * 2 ^ (k * 2 ^ f))
+    block-xor : w + v * 2 ^ (k * 2 ^ f) ≡ bitXor w (v * 2 ^ (k * 2 ^ f))
     block-xor = sym (xor-disjoint w (v * 2 ^ (k * 2 ^ f)) (bit-ext (λ i. bit-and w (v * 2 ^ (k * 2 ^ f)) i ∙ go i (decLt i (suc k * 2 ^ f)) ∙ sym (bit-zero i))))
       where
         go : (i : ℕ) → Dec (i < suc k * 2 ^ f) → min (bit w i) (bit (v * 2 ^ (k * 2 ^ f)) i) ≡ 0
         go i (yes l) = rw (clear i l) (omega arith)
         go i (no g) = rw (block-above (2 ^ f) k v i hv (omega arith)) (omega arith)
 
-    -- the codeword then changes by the block's copies
-    pub block-codeword : codeword n (w + v * 2 ^ (k * 2 ^ f)) ≡ bitXor (codeword n w) (codeword f v * codeword n (2 ^ (k * 2 ^ f)))
-    block-codeword = rw block-xor (codeword-xor n w (v * 2 ^ (k * 2 ^ f)) ∙ ap (bitXor (codeword n w)) (block-code v hv))
-
-    -- and the block's codeword bits are those of the blocks above, changed by the block's own codeword
+    -- the block's codeword bits are those of the blocks above, changed by the block's own codeword
     pub block-decided : (t : ℕ) → t < 2 ^ f
         → codeBit n (w + v * 2 ^ (k * 2 ^ f)) (k * 2 ^ f + t) ≡ bit (bitXor (codeword n w / 2 ^ (k * 2 ^ f) % 2 ^ (2 ^ f)) (codeword f v)) t
     block-decided t ht =

@@ -136,7 +136,7 @@ module _ (n mask F : ℕ) (fits : F < 2 ^ n) (few : ones F ≤ 3) (k w e : ℕ) 
 
   adding : decided n F k next ≡ decided n F (suc k) w + unseat n F (fillingOf forced e * 2 ^ (k * s))
   unfolding decided
-  adding = ap (unseat n F) above-is ∙ seated-down n F fits k high (fillingOf forced e) hk high-lt (block-below s (suc k) _) filling-lt .apart
+  adding = ap (unseat n F) above-is ∙ seated-down n F k high (fillingOf forced e) (block-below s (suc k) _) filling-lt
 
   -- a frozen bit in the change is one in the filling
   freely : eqb (bitAnd next (shutOf n F mask k)) 0 ≡ eqb (bitAnd (fillingOf forced e) (blockOf s k (seat n F mask))) 0

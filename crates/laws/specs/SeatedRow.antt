@@ -138,7 +138,7 @@ module _ (n mask : ℕ) (cost : ℕ → ℕ → ℕ) (F k w : ℕ) (fits : F < 2
   code-at : (u : ℕ) → u < 2 ^ (2 ^ ones F) → (t : ℕ) → t < 2 ^ ones F
       → codeBit n (unseat n F w + unseat n F (value u * 2 ^ (k * 2 ^ ones F))) (seatIndex n F (k * 2 ^ ones F + t)) ≡ bit u t
   code-at u l t h =
-      rw (← seated-down n F fits k w (value u) hk hw clear (short .0) .apart)
+      rw (← seated-down n F k w (value u) clear (short .0))
       (unseat-code-bit n F fits _ (k * 2 ^ ones F + t) (group-seat-lt n F fits k t hk h)
       ∙ block-decided n (ones F) k (ones-le n F fits) (rw (groups-blocks n F fits) at hk) w (value u) clear (short .0) t h
       ∙ rw (short .1, xor-comm forced (bitXor u forced), xor-twice u forced))
