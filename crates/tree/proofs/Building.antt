@@ -1,11 +1,11 @@
 -- A group's row while it is built, slot by slot: group sizes, seats, entries that are small, and what follows the row.
 use Prim.Native.Nat.{ℕ, zero, suc, _+_, _*_, _-_, _%_, _^_, _≤_, _<_}
 use mathlib.Core.Path.{_≡_, refl, sym, ap, _∙_}
-use mathlib.Core.List.{List, [], _∷_, _++_, append-nil}
-use native.Mathlib.Nat.{le-of-eq, le-trans, lt-of-lt-of-le, not-suc-le-zero}
+use mathlib.Core.List.{List, [], _++_, append-nil}
+use native.Mathlib.Nat.{le-of-eq, le-trans, lt-of-lt-of-le, le-refl}
 use native.Mathlib.Omega.{arith}
 use lib.IntN.{ℤ}
-use lib.ListN.{length, getD, take, drop, set, length-drop, drop-of-length-le}
+use lib.ListN.{length, getD, take, drop, length-drop, drop-of-length-le}
 use lib.Pow.{pow-lt, pow-mono}
 use lib.Seq.{getD-take, take-at, take-all, drop-append-add, drop-drop}
 use Rattle.rules.specs.Level.{limit}
@@ -31,6 +31,11 @@ size-small = by-size (λ (size : ℕ). size ≤ 8) (omega arith) (omega arith) (
 pub size-even : {size : ℕ} → GroupSize size → (size ≡ 1 → ⊥) → size % 2 ≡ 0
 size-even =
     by-size (λ (size : ℕ). (size ≡ 1 → ⊥) → size % 2 ≡ 0) (λ n. absurd (n refl)) (λ n. refl) (λ n. refl) (λ n. refl)
+
+-- a group of more slots than one has two at least
+pub two-slots : {size : ℕ} → GroupSize size → (size ≡ 1 → ⊥) → 2 ≤ size
+two-slots =
+    by-size (λ (size : ℕ). (size ≡ 1 → ⊥) → 2 ≤ size) (λ n. absurd (n refl)) (λ n. omega arith) (λ n. omega arith) (λ n. omega arith)
 
 -- fewer seats of those
 pub seats-fewer : {levels : List ℤ} {index : List ℕ} {first count : ℕ} (k : ℕ) → k ≤ count → Levelled levels index first count
@@ -72,16 +77,15 @@ drop-behind xs l n k long h =
     rw e at (drop-append-add xs (drop n l) (k - n)) ∙ rw f at (drop-drop (k - n) n l)
 
 module _ (cost : ℕ → ℕ → ℕ) where
-  -- the row of no slot
-  pub built-none : (old : List ℕ) → 0 < length old → set old 0 0 ≡ rowOf cost 0 ++ drop (2 ^ 0) (set old 0 0)
-  unfolding rowOf
-  built-none [] l = absurd (not-suc-le-zero l)
-  built-none (x ∷ old) l = refl
-
   module _ (t : ℕ) {row : List ℕ} (old : List ℕ) (e : row ≡ rowOf cost t ++ drop (2 ^ t) old) where
     -- the row of t slots is what the list begins with
     pub built-take : take (2 ^ t) row ≡ rowOf cost t
     built-take = rw e (take-at (rowOf cost t) (drop (2 ^ t) old) (2 ^ t) (row-length cost t))
+
+    -- and stands before what follows it
+    pub built-self : row ≡ rowOf cost t ++ drop (2 ^ t) row
+    built-self =
+        e ∙ ap (λ (r : List ℕ). rowOf cost t ++ r) (sym (rw e (drop-behind (rowOf cost t) old (2 ^ t) (2 ^ t) (row-length cost t) (le-refl (2 ^ t)))))
 
     -- a longer row in its place
     pub built-more : (k : ℕ) {new : List ℕ} → t ≤ k → new ≡ rowOf cost k ++ drop (2 ^ k) row → new ≡ rowOf cost k ++ drop (2 ^ k) old

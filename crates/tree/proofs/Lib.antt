@@ -18,6 +18,7 @@ pub mod Merging
 pub mod LaneTurns
 pub mod LaneMirrors
 pub mod LaneRows
+pub mod FirstRows
 pub mod Building
 pub mod Places
 pub mod Searching

@@ -1,6 +1,6 @@
 -- How contracts read the levels: the first out of range, those at the seats of a group, their costs, and the sorted rows made
 -- of them.
-use Prim.Native.Nat.{ℕ, _+_, _-_, _*_, _^_, _≤_, _<_}
+use Prim.Native.Nat.{ℕ, _+_, _-_, _*_, _^_, _≤_, _<_, min, max}
 use mathlib.Core.Path.{_≡_}
 use mathlib.Core.Bool.{true, not, cond}
 use mathlib.Core.Option.{Option, some, none}
@@ -32,6 +32,11 @@ GroupSize size = (f : ℕ) × (f ≤ 3) × (size ≡ 2 ^ f)
 -- the cost of bit b in slot t of the group whose first seat is given
 abbrev pub seatCost : List ℤ → List ℕ → ℕ → ℕ → ℕ → ℕ
 seatCost levels index first t b = slotCost (levelAt levels (getD index (first + t) 0)) b
+
+-- the entries of a slot's bits by their costs, that of bit 1 with its pattern, in order
+pub record InOrder (cost : ℕ → ℕ) (pattern low high : ℕ) : Type 0 where
+  pub lower : low ≡ min (cost 0 * 256) (cost 1 * 256 + pattern)
+  pub higher : high ≡ max (cost 0 * 256) (cost 1 * 256 + pattern)
 
 -- the row of the first t slots of that group
 abbrev pub seatRow : List ℤ → List ℕ → ℕ → ℕ → List ℕ

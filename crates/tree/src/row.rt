@@ -3,13 +3,13 @@
 ghost use mathlib.Core.Path.{_≡_};
 ghost use mathlib.Core.Bool.{cond};
 ghost use mathlib.Core.List.{_++_};
-ghost use Prim.Native.Nat.{ℕ, suc, _+_, _*_, _^_, _<_, _≤_, min};
+ghost use Prim.Native.Nat.{ℕ, suc, _+_, _*_, _^_, _<_, _≤_, min, max};
 ghost use lib.Dec.{ltb};
 ghost use lib.ListN.{length, getD, take, drop};
 ghost use Rattle.rules.specs.Level.{levelAt};
 ghost use Rattle.laws.specs.SortedLists.{Rising};
 ghost use Rattle.laws.specs.SortedRows.{doubled};
-ghost use Rattle.tree.specs.Costs.{seatRow, GroupSize, Levelled, Mirrored, RowsRight};
+ghost use Rattle.tree.specs.Costs.{seatCost, seatRow, InOrder, GroupSize, Levelled, Mirrored, RowsRight};
 use crate::cost::slot_costs;
 use crate::four::fours;
 
@@ -96,17 +96,58 @@ fn add_slot(
     );
 }
 
-// The row of one slot: the entries of both bits, the smaller one first.
-fn fill_pair(row: &mut [u64], levels: &[i32], index: &[usize; 64], first: usize)
+// Two numbers in order.
+struct Ends {
+    low: u64,
+    high: u64,
+}
+
+fn in_order(x: u64, y: u64) -> Ends
+    requires { ⌜ x + y < 2 ^ 63 ⌝ }
+    ensures { λ r. ⌜ (r .low ≡ min x y) × (r .high ≡ max x y) ⌝ }
+{
+    let low = least(x, y);
+    Ends {
+        low,
+        high: x + y - low,
+    }
+}
+
+// The entries of both bits of a slot, in order.
+fn slot_entries(levels: &[i32], index: &[usize; 64], seat: usize, pattern: u64) -> Ends
+    requires { ⌜ Levelled (now levels) (now index) seat 1 × (pattern < 256) ⌝ }
+    ensures { λ r. ⌜ InOrder (seatCost (now (levels .entry)) (now (index .entry)) seat 0) pattern (r .low) (r .high) ⌝ }
+    ensures small { λ r. ⌜ (r .low < 2 ^ 41) × (r .high < 2 ^ 41) ⌝ }
+{
+    let costs = slot_costs(seat_level(levels, index, seat));
+    in_order(
+        (costs.zero as u64) * 256,
+        (costs.one as u64) * 256 + pattern,
+    )
+}
+
+// The row of one slot.
+fn fill_one(row: &mut [u64], levels: &[i32], index: &[usize; 64], first: usize)
     requires { ⌜ Levelled (now levels) (now index) first 1 × (2 ≤ length (now row)) ⌝ }
     ensures { λ _. ⌜ now (row .exit) ≡ seatRow (now (levels .entry)) (now (index .entry)) first 1 ++ drop 2 (now (row .entry)) ⌝ }
 {
-    let costs = slot_costs(seat_level(levels, index, first));
-    let x = (costs.zero as u64) * 256;
-    let y = (costs.one as u64) * 256 + 1;
-    let v = least(x, y);
-    row[0] = v;
-    row[1] = x + y - v;
+    let own = slot_entries(levels, index, first, 1);
+    row[0] = own.low;
+    row[1] = own.high;
+}
+
+// The row of two slots: the sums of their entries. Only the two in the middle are not in order by themselves.
+fn fill_two(row: &mut [u64], levels: &[i32], index: &[usize; 64], first: usize)
+    requires { ⌜ Levelled (now levels) (now index) first 2 × (4 ≤ length (now row)) ⌝ }
+    ensures { λ _. ⌜ now (row .exit) ≡ seatRow (now (levels .entry)) (now (index .entry)) first 2 ++ drop 4 (now (row .entry)) ⌝ }
+{
+    let own = slot_entries(levels, index, first, 1);
+    let next = slot_entries(levels, index, first + 1, 2);
+    let middle = in_order(own.high + next.low, own.low + next.high);
+    row[0] = own.low + next.low;
+    row[1] = middle.low;
+    row[2] = middle.high;
+    row[3] = own.high + next.high;
 }
 
 // The row of the group whose first seat is given. Two slots a turn: from the row to the spare one and back.
@@ -123,11 +164,11 @@ fn fill_row(
     ensures { λ _. ⌜ now (row .exit) ≡ seatRow (now (levels .entry)) (now (index .entry)) first size ++ drop (2 ^ size) (now (row .entry)) ⌝ }
 {
     if size == 1 {
-        fill_pair(row, levels, index, first);
+        fill_one(row, levels, index, first);
         return;
     }
-    row[0] = 0;
-    let mut t = 0;
+    fill_two(row, levels, index, first);
+    let mut t = 2;
     while t < size {
         add_slot(row, spare, t, levels, index, first);
         add_slot(spare, row, t + 1, levels, index, first);

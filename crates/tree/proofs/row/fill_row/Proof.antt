@@ -1,17 +1,14 @@
 -- `tree::row::fill_row` meets its contract: before each turn the row begins with that of the group's first t slots.
 use Prim.Native.Nat.{ℕ, suc, _+_, _-_, _%_, _^_, _≤_, _<_}
-use mathlib.Core.Path.{_≡_, refl, ap, _∙_}
-use mathlib.Core.List.{List, _++_}
-use native.Mathlib.Nat.{le-trans}
+use mathlib.Core.Path.{_≡_, refl, _∙_}
+use mathlib.Core.List.{_++_}
 use native.Mathlib.Numerals.{add-one}
 use native.Mathlib.Omega.{arith}
 use borrow.Author.Needs.{needs}
-use lib.ListN.{length, drop, set, length-set}
-use lib.Pow.{pow-pos}
-use lib.Seq.{drop-set-lt}
+use lib.ListN.{length, drop}
 use Rattle.laws.specs.SortedRows.{rowOf}
 use Rattle.tree.specs.Costs.{seatCost}
-use Rattle.tree.proofs.Building.{size-small, size-even, seats-fewer, room, room-more, built-none, built-take, built-more}
+use Rattle.tree.proofs.Building.{size-small, size-even, seats-fewer, two-slots, room, room-more, built-take, built-self, built-more}
 use Rattle.tree.proofs.row.fill_row.Statement.{statement}
 use Rattle.tree.proofs.row.fill_row.Tie as tie
 
@@ -23,8 +20,8 @@ Inv-loop row₀ spare₀ levels index first size t₀ row spare t =
 abbrev μ-loop : tie.MeasureT-loop
 μ-loop row₀ spare₀ levels index first size t₀ row spare t = size - t
 
-fill-pair-requires : tie.Need-fill-pair-requires Inv-loop μ-loop
-fill-pair-requires c κs =
+fill-one-requires : tie.Need-fill-one-requires Inv-loop μ-loop
+fill-one-requires c κs =
     let s = c .before .before .before .before in
     let one : s .args .size ≡ 1 = c .before .if1 .taken in
     (rw one at (s .pre .0 .1), rw one at (s .pre .1 .0))
@@ -33,24 +30,27 @@ same-length : tie.Need-same-length Inv-loop μ-loop
 same-length c = search needs
 
 returns : tie.Need-returns Inv-loop μ-loop
-returns c = rw (c .before .before .before .before .if1 .taken) (c .before .before .fill-pair .ensures)
+returns c = rw (c .before .before .before .before .if1 .taken) (c .before .before .fill-one .ensures)
 
-slice-write-row : tie.Need-slice-write-row Inv-loop μ-loop
-slice-write-row c = let s = c .before .before .before in le-trans (pow-pos (s .args .size)) (s .pre .1 .0)
+fill-two-requires : tie.Need-fill-two-requires Inv-loop μ-loop
+fill-two-requires c κs =
+    let s = c .before .before .before .before in
+    let two = two-slots (s .pre .0 .0) (c .before .if1 .left) in
+    (seats-fewer 2 two (s .pre .0 .1), room two (s .pre .1 .0) refl)
 
 loop-holds : tie.Need-loop-holds Inv-loop μ-loop
 loop-holds c =
-    let s = c .before .before .before in
-    (omega arith, refl, refl, refl, built-none _ (s .args .row .now) (le-trans (pow-pos (s .args .size)) (s .pre .1 .0)))
+    let s = c .before .before .before .before .before .before .before in
+    (two-slots (s .pre .0 .0) (c .before .before .before .before .if1 .left), refl, refl, refl, built-self _ 2 (s .args .row .now) (c .before .before .fill-two .ensures))
 
 add-slot-requires : tie.Need-add-slot-requires Inv-loop μ-loop
 add-slot-requires c κs =
     let l = c .before .before .before .loop in
-    let s = c .before .before .before .before .before .before .before in
+    let s = c .before .before .before .before .before .before .before .before .before .before .before in
     let less = c .before .before .loop-test .taken in
-    let long = l .inv .2 ∙ length-set (s .args .row .now) 0 0 in (
+    let long = l .inv .2 ∙ c .before .before .before .before .before .before .fill-two .kept .0 in (
       (omega (arith, size-small (s .pre .0 .0)), seats-fewer (suc (l .t)) less (s .pre .0 .1)),
-      ((room-more less (s .pre .1 .0) long, room less (s .pre .1 .1) (l .inv .3)), built-take _ (l .t) (set (s .args .row .now) 0 0) (l .inv .4)),
+      ((room-more less (s .pre .1 .0) long, room less (s .pre .1 .1) (l .inv .3)), built-take _ (l .t) _ (l .inv .4)),
     )
 
 add-add-slot : tie.Need-add-add-slot Inv-loop μ-loop
@@ -59,13 +59,13 @@ add-add-slot c = search needs
 add-slot-requires-2 : tie.Need-add-slot-requires-2 Inv-loop μ-loop
 add-slot-requires-2 c κs =
     let l = c .before .before .before .before .before .before .before .before in
-    let s = c .before .before .before .before .before .before .before .before .before .before .before .before in
+    let s = c .before .before .before .before .before .before .before .before .before .before .before .before .before .before .before .before in
     let t = l .loop .t in
     let cost : ℕ → ℕ → ℕ = seatCost (s .args .levels .now) (s .args .index .now) (s .args .first) in
     let less = c .before .before .before .before .before .before .before .loop-test .taken in
-    let next : suc (t + 1) ≤ s .args .size = omega (arith, size-even (s .pre .0 .0) (l .before .if1 .left)) in
+    let next : suc (t + 1) ≤ s .args .size = omega (arith, size-even (s .pre .0 .0) (l .before .before .before .before .before .if1 .left)) in
     let fewer : suc t < s .args .size = omega (arith, next) in
-    let long = l .loop .inv .2 ∙ length-set (s .args .row .now) 0 0 in
+    let long = l .loop .inv .2 ∙ l .before .before .before .fill-two .kept .0 in
     let step = c .before .before .before .before .add-slot in (
       (omega (arith, size-small (s .pre .0 .0)), seats-fewer (suc (t + 1)) next (s .pre .0 .1)),
       (
@@ -83,29 +83,28 @@ loop-less c = search needs
 loop-again : tie.Need-loop-again Inv-loop μ-loop
 loop-again c =
     let l = c .before .before .before .before .before .before .before .before .before .before .before in
-    let s = c .before .before .before .before .before .before .before .before .before .before .before .before .before .before .before in
+    let s = c .before .before .before .before .before .before .before .before .before .before .before .before .before .before .before .before .before .before .before in
     let t = l .loop .t in
     let next : t + 2 ≡ suc (t + 1) = omega arith in (
-      omega (arith, size-even (s .pre .0 .0) (l .before .if1 .left)),
-      omega arith,
+      omega (arith, size-even (s .pre .0 .0) (l .before .before .before .before .before .if1 .left), c .before .before .before .before .before .before .before .before .before .before .loop-test .taken, l .loop .inv .1),
+      omega (arith, l .loop .inv .1),
       c .before .before .add-slot2 .kept .1 .0 ∙ l .loop .inv .2,
       c .before .before .before .before .before .before .before .add-slot .kept .1 .0 ∙ l .loop .inv .3,
-      rw next (built-more _ t (set (s .args .row .now) 0 0) (l .loop .inv .4) (suc (t + 1)) (omega arith) (c .before .before .add-slot2 .ensures)),
+      rw next (built-more _ t _ (l .loop .inv .4) (suc (t + 1)) (omega arith) (c .before .before .add-slot2 .ensures)),
     )
 
 same-length-2 : tie.Need-same-length-2 Inv-loop μ-loop
-same-length-2 c = c .before .loop .inv .2 ∙ length-set (c .before .before .before .before .before .args .row .now) 0 0
+same-length-2 c = c .before .loop .inv .2 ∙ c .before .before .before .before .fill-two .kept .0
 
 same-length-3 : tie.Need-same-length-3 Inv-loop μ-loop
 same-length-3 c = search needs
 
 returns-2 : tie.Need-returns-2 Inv-loop μ-loop
 returns-2 c =
-    let s = c .before .before .before .before .before in
+    let s = c .before .before .before .before .before .before .before .before .before in
     let all : c .before .loop .t ≡ s .args .size = omega arith in
-    let cost : ℕ → ℕ → ℕ = seatCost (s .args .levels .now) (s .args .index .now) (s .args .first) in
-    rw all at (c .before .loop .inv .4)
-    ∙ ap (λ (r : List ℕ). rowOf cost (s .args .size) ++ r) (drop-set-lt (2 ^ (s .args .size)) (s .args .row .now) 0 0 (pow-pos (s .args .size)))
+    built-more _ 2 (s .args .row .now) (c .before .before .before .before .fill-two .ensures) (s .args .size)
+    (two-slots (s .pre .0 .0) (c .before .before .before .before .before .before .if1 .left)) (rw all at (c .before .loop .inv .4))
 
 pub fill-row-spec : {M : Type 1} → statement M
 fill-row-spec =
@@ -113,10 +112,10 @@ fill-row-spec =
     (tie.spec
     Inv-loop
     μ-loop
-    fill-pair-requires
+    fill-one-requires
     same-length
     returns
-    slice-write-row
+    fill-two-requires
     loop-holds
     add-slot-requires
     add-add-slot
