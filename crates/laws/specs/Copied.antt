@@ -1,5 +1,5 @@
 -- Group by group in index order: the change of a pattern is that of group 0 times the codeword of the group's smallest index;
--- that codeword from those of two smaller groups; and the frozen indices of a group.
+-- that codeword from the one of the group without its highest one bit; and the frozen indices of a group.
 use Prim.Native.Nat.{ℕ, zero, suc, _+_, _-_, _*_, _^_, _≤_, _<_}
 use mathlib.Core.Path.{_≡_, sym, ap, ap₂, _∙_}
 use mathlib.Core.Bool.{Bool, true, false, cond}
@@ -27,8 +27,8 @@ use Rattle.laws.specs.SeatSums.{unseat-xor, unseat-code}
 use Rattle.laws.specs.Decided.{changeOf, shutOf}
 
 -- the codeword of a group's smallest index
-abbrev pub spreadOf : ℕ → ℕ → ℕ → ℕ
-spreadOf n F k = codeword n (2 ^ seatIndex n F (k * 2 ^ ones F))
+abbrev pub coveredOf : ℕ → ℕ → ℕ → ℕ
+coveredOf n F k = codeword n (2 ^ seatIndex n F (k * 2 ^ ones F))
 
 -- a one at the start of each block below m that passes the test, in seat order
 abbrev starts : ℕ → (ℕ → Bool) → ℕ → ℕ
@@ -80,8 +80,8 @@ module _ (n F : ℕ) (fits : F < 2 ^ n) where
   unseat-one = unseat-pow n F 0 (pow-pos n) ∙ rw seat-first
 
   -- the change of a pattern in any group, from that in group 0
-  pub change-copied : ones F ≤ 3 → (k u : ℕ) → k < groups n F → u < 2 ^ (2 ^ ones F) → changeOf n F 0 u * spreadOf n F k ≡ changeOf n F k u
-  change-copied few k u hk hu =
+  pub change-copied : (k u : ℕ) → k < groups n F → u < 2 ^ (2 ^ ones F) → changeOf n F 0 u * coveredOf n F k ≡ changeOf n F k u
+  change-copied k u hk hu =
       ap₂ (λ (x y : ℕ). x * y) first spread ∙ sym (unseat-copies value (codeword-lt (ones F) u) covered (groups n F) (le-refl _))
       ∙ ap (unseat n F) (ap (λ (x : ℕ). value * x) (sym start) ∙ sym (block-code n (ones F) k (ones-le n F fits) inside u hu))
       ∙ unseat-code n F fits (u * 2 ^ (k * 2 ^ ones F))
@@ -101,7 +101,7 @@ module _ (n F : ℕ) (fits : F < 2 ^ n) where
       start : codeword n (2 ^ (k * 2 ^ ones F)) ≡ starts (2 ^ ones F) covered (groups n F)
       start = block-start n (ones F) k (ones-le n F fits) inside ∙ ap (starts (2 ^ ones F) covered) (sym (groups-blocks n F fits))
 
-      spread : spreadOf n F k ≡ smallests covered (groups n F)
+      spread : coveredOf n F k ≡ smallests covered (groups n F)
       spread =
           ap (codeword n) (sym (unseat-pow n F (k * 2 ^ ones F) (rw add-zero at (group-seat-lt n F fits k 0 hk (pow-pos (ones F))))))
           ∙ sym (unseat-code n F fits (2 ^ (k * 2 ^ ones F))) ∙ ap (unseat n F) (start ∙ sym (one-mul _)) ∙ unseat-copies 1 (pow-lt (pow-pos (ones F))) covered (groups n F) (le-refl _)
@@ -116,14 +116,14 @@ module _ (n F : ℕ) (fits : F < 2 ^ n) where
       (codeword-xor n (unseat n F u) (unseat n F (2 ^ t)))
 
   -- group 0 covers itself alone
-  pub spread-first : spreadOf n F 0 ≡ 1
-  spread-first = rw (zero-mul (2 ^ ones F), seat-first) (codeword-one n)
+  pub covered-first : coveredOf n F 0 ≡ 1
+  covered-first = rw (zero-mul (2 ^ ones F), seat-first) (codeword-one n)
 
   -- a group's highest one bit moves what the rest of it covers, past the rest's own place
-  pub spread-more : (b r : ℕ) → r < 2 ^ b → 2 ^ b + r < groups n F
-      → (spreadOf n F r < 2 ^ seatIndex n F (2 ^ b * 2 ^ ones F))
-      × (spreadOf n F (2 ^ b + r) ≡ spreadOf n F r + spreadOf n F r * 2 ^ seatIndex n F (2 ^ b * 2 ^ ones F))
-  spread-more b r hr hk =
+  pub covered-more : (b r : ℕ) → r < 2 ^ b → 2 ^ b + r < groups n F
+      → (coveredOf n F r < 2 ^ seatIndex n F (2 ^ b * 2 ^ ones F))
+      × (coveredOf n F (2 ^ b + r) ≡ coveredOf n F r + coveredOf n F r * 2 ^ seatIndex n F (2 ^ b * 2 ^ ones F))
+  covered-more b r hr hk =
       rw (
         seat-start n F fits r (omega arith),
         seat-start n F fits (2 ^ b) (omega arith),
@@ -142,7 +142,7 @@ module _ (n F : ℕ) (fits : F < 2 ^ n) where
       rest : 2 ^ deposit (hasBit F 0) n r < 2 ^ (2 ^ at .0)
       rest = pow-lt (rw (← at .2) (deposit-rises (hasBit F 0) n r (2 ^ b) highest hr))
 
-  -- the indices of a group: those of group 0, moved up to its smallest
+  -- the frozen indices of a group: the mask at those of group 0, moved up to its smallest
   pub shut-is : (mask k : ℕ) → k < groups n F
       → bitAnd mask (unseat n F (2 ^ (2 ^ ones F) - 1) * 2 ^ seatIndex n F (k * 2 ^ ones F)) ≡ shutOf n F mask k
   shut-is mask k hk =

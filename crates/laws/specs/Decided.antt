@@ -138,7 +138,7 @@ module _ (n mask F : ℕ) (fits : F < 2 ^ n) (few : ones F ≤ 3) (k w e : ℕ) 
   unfolding decided
   adding = ap (unseat n F) above-is ∙ seated-down n F k high (fillingOf forced e) (block-below s (suc k) _) filling-lt
 
-  -- a frozen bit in the change is one in the filling
+  -- the next word has a frozen bit of the group where the filling has one
   freely : eqb (bitAnd next (shutOf n F mask k)) 0 ≡ eqb (bitAnd (fillingOf forced e) (blockOf s k (seat n F mask))) 0
   freely =
       rw (and-comm next (shutOf n F mask k), and-comm (fillingOf forced e) (blockOf s k (seat n F mask)), ← block-is)

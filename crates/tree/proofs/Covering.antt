@@ -10,7 +10,7 @@ use lib.Count.{ones}
 use lib.ListN.{length, getD}
 use lib.Pow.{pow-mono, pow-pos}
 use Rattle.laws.specs.Matrix.{codeword-lt}
-use Rattle.laws.specs.Copied.{spreadOf, spread-first, spread-more}
+use Rattle.laws.specs.Copied.{coveredOf, covered-first, covered-more}
 use Rattle.laws.specs.Seats.{seatIndex}
 use Rattle.laws.specs.SeatedDown.{groups-blocks}
 use Rattle.tree.specs.declared.group.Tree.{Tree}
@@ -24,7 +24,7 @@ use Rattle.tree.proofs.WordsDoubled.{Begins, begins-doubled}
 pub record Covering (g : Tree) (r : List ℕ) (m : ℕ) : Type 0 where
   pub long : length r ≡ 64
   pub power : (b : ℕ) × (m ≡ 2 ^ b)
-  pub done : Begins r (spreadOf (g .n) (g .folding)) m
+  pub done : Begins r (coveredOf (g .n) (g .folding)) m
 
 -- m is not 0
 pub some-done : {g : Tree} {r : List ℕ} {m : ℕ} → Covering g r m → 0 < m
@@ -47,8 +47,8 @@ module _ {g : Tree} (given : Grouped g) where
   pub covering-first : (r : List ℕ) → length r ≡ 64 → getD r 0 0 ≡ 1 → Covering g r 1
   covering-first r long first = record { long = long; power = (0, refl); done = λ k h. go k (omega arith) }
     where
-      go : (k : ℕ) → k ≡ 0 → getD r k 0 ≡ spreadOf (g .n) (g .folding) k
-      go k e = rw e (first ∙ sym (spread-first (g .n) (g .folding) (given .fits)))
+      go : (k : ℕ) → k ≡ 0 → getD r k 0 ≡ coveredOf (g .n) (g .folding) k
+      go k e = rw e (first ∙ sym (covered-first (g .n) (g .folding) (given .fits)))
 
   module _ {r : List ℕ} {m : ℕ} (inv : Covering g r m) (inside : m < g .groups) where
     -- there are as many groups more
@@ -64,19 +64,19 @@ module _ {g : Tree} (given : Grouped g) where
     place = seatIndex (g .n) (g .folding) (m * 2 ^ ones (g .folding))
 
     -- what a group with bit m covers, from what the rest of it covers
-    moved : (k : ℕ) → k < m → (spreadOf (g .n) (g .folding) k < 2 ^ place)
-        × (spreadOf (g .n) (g .folding) (m + k) ≡ spreadOf (g .n) (g .folding) k + spreadOf (g .n) (g .folding) k * 2 ^ place)
+    moved : (k : ℕ) → k < m → (coveredOf (g .n) (g .folding) k < 2 ^ place)
+        × (coveredOf (g .n) (g .folding) (m + k) ≡ coveredOf (g .n) (g .folding) k + coveredOf (g .n) (g .folding) k * 2 ^ place)
     moved k h =
         let b = inv .power .0 in
         let is = inv .power .1 in
-        rw (← is) at (spread-more (g .n) (g .folding) (given .fits) b k (rw is at h) (rw (← is, ← given .all) (omega (arith, groups-more, h))))
+        rw (← is) at (covered-more (g .n) (g .folding) (given .fits) b k (rw is at h) (rw (← is, ← given .all) (omega (arith, groups-more, h))))
 
     -- as the code adds it: no one bit of the rest lies where it is moved to
     moved-xor : (k : ℕ) → k < m
-        → bitXor (spreadOf (g .n) (g .folding) k) (spreadOf (g .n) (g .folding) k * 2 ^ place % 2 ^ 64) ≡ spreadOf (g .n) (g .folding) (m + k)
+        → bitXor (coveredOf (g .n) (g .folding) k) (coveredOf (g .n) (g .folding) k * 2 ^ place % 2 ^ 64) ≡ coveredOf (g .n) (g .folding) (m + k)
     moved-xor k h =
-        let rest : ℕ = spreadOf (g .n) (g .folding) k in
-        let small : spreadOf (g .n) (g .folding) (m + k) < 2 ^ 64 =
+        let rest : ℕ = coveredOf (g .n) (g .folding) k in
+        let small : coveredOf (g .n) (g .folding) (m + k) < 2 ^ 64 =
         lt-of-lt-of-le (codeword-lt (g .n) _) (pow-mono {j = 64} (pow-mono {j = 6} (given .small)))
         in
         let fits : rest * 2 ^ place < 2 ^ 64 = omega (arith, moved k h .1, small) in
@@ -90,7 +90,7 @@ module _ {g : Tree} (given : Grouped g) where
         record {
           long = same ∙ inv .long;
           power = (suc (inv .power .0), twice ∙ ap (λ (x : ℕ). x + x) (inv .power .1) ∙ omega (arith, two-pow-succ (inv .power .0)));
-          done = rw twice (begins-doubled (spreadOf (g .n) (g .folding)) doubled moved-xor (inv .done));
+          done = rw twice (begins-doubled (coveredOf (g .n) (g .folding)) doubled moved-xor (inv .done));
         }
       where
         here : getD l (m * g .size) 0 ≡ place

@@ -88,7 +88,7 @@ module _ {rows : List (List ℕ)} {change covered shut : List ℕ} {g : Tree} {k
     change-is : getD covered k 0 * getD change (e % 256) 0 ≡ changeOf (g .n) (g .folding) k (e % 256)
     change-is =
         ap₂ (λ (a b : ℕ). a * b) (given .tables .copied k (given .begun .within)) (given .tables .changes (e % 256) pattern-lt)
-        ∙ mul-comm _ _ ∙ change-copied (g .n) (g .folding) (grouped .fits) (grouped .few) k (e % 256) group-is (rw (← sized) pattern-lt)
+        ∙ mul-comm _ _ ∙ change-copied (g .n) (g .folding) (grouped .fits) k (e % 256) group-is (rw (← sized) pattern-lt)
 
     pub change-fits : getD covered k 0 * getD change (e % 256) 0 < 2 ^ 64
     change-fits = rw change-is (lt-of-lt-of-le (codeword-lt (g .n) _) (pow-mono (pow-mono {j = 6} (grouped .small))))

@@ -6,7 +6,7 @@ use lib.Count.{ones}
 use lib.ListN.{getD}
 use Rattle.rules.specs.Folding as rules
 use Rattle.laws.specs.Decided.{changeOf, shutOf}
-use Rattle.laws.specs.Copied.{spreadOf}
+use Rattle.laws.specs.Copied.{coveredOf}
 use Rattle.tree.specs.declared.group.Tree.{Tree}
 
 -- n up to 6, a folding of at most three ones, the size of its groups and their number, and an allowance of 32 bits
@@ -20,7 +20,7 @@ pub record Grouped (g : Tree) : Type 0 where
 
 -- for each group, the codeword of its smallest index alone
 abbrev pub Covered : List ℕ → Tree → Type 0
-Covered l g = (k : ℕ) → k < g .groups → getD l k 0 ≡ spreadOf (g .n) (g .folding) k
+Covered l g = (k : ℕ) → k < g .groups → getD l k 0 ≡ coveredOf (g .n) (g .folding) k
 
 -- for each group, its indices that are frozen in a mask
 abbrev pub Shut : List ℕ → Tree → ℕ → Type 0

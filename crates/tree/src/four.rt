@@ -140,7 +140,7 @@ fn fill_lanes(row: &mut [u64], spare: &mut [u64], levels: &[i32], index: &[usize
     }
 }
 
-// The rows of all groups, where there are so many fours of groups.
+// The rows of 4 * count groups with 8 slots each.
 pub(crate) fn fours(levels: &[i32], index: &[usize; 64], count: usize) -> [[u64; 1024]; 2]
     requires { ⌜ Levelled (now levels) (now index) 0 (count * 32) ⌝ }
     ensures { λ r. ⌜ RowsRight (now (levels .entry)) (now (index .entry)) (count * 4) 8 r ⌝ }

@@ -1,4 +1,4 @@
-// The groups of a folding, and what the walk reads of each: what its patterns change in the word, and its frozen indices.
+// The tree of a folding, and what the walk reads of each group: what its patterns change in the word, and its frozen indices.
 // Words are in index order; seats only say which indices a group has.
 ghost use mathlib.Core.Path.{_≡_};
 ghost use Prim.Native.Nat.{_+_, _-_, _*_, _%_, _^_, _≤_, _<_};
@@ -80,7 +80,7 @@ fn double_moved(words: &mut [Word], m: usize, step: usize)
 }
 
 // For each group, the codeword of its smallest index alone: a one at the smallest index of each group that it covers.
-// A group with a one bit more covers what the rest of it covers, and the same moved up by the smallest index of that bit alone.
+// A group with a one bit more covers what the rest of it covers, and the same moved up by the smallest index of the group with that bit alone.
 pub(crate) fn covered(index: &[usize; 64], tree: Tree) -> [Word; 64]
     requires { ⌜ Grouped tree × Seated (now index) (tree .n) (tree .folding) ⌝ }
     ensures { λ r. ⌜ Covered r tree ⌝ }

@@ -97,24 +97,25 @@ fn add_slot(
 }
 
 // Two numbers in order.
-struct Ends {
+struct Ordered {
     low: u64,
     high: u64,
 }
 
-fn in_order(x: u64, y: u64) -> Ends
+// The smaller and the greater of two.
+fn in_order(x: u64, y: u64) -> Ordered
     requires { ⌜ x + y < 2 ^ 63 ⌝ }
     ensures { λ r. ⌜ (r .low ≡ min x y) × (r .high ≡ max x y) ⌝ }
 {
     let low = least(x, y);
-    Ends {
+    Ordered {
         low,
         high: x + y - low,
     }
 }
 
 // The entries of both bits of a slot, in order.
-fn slot_entries(levels: &[i32], index: &[usize; 64], seat: usize, pattern: u64) -> Ends
+fn slot_entries(levels: &[i32], index: &[usize; 64], seat: usize, pattern: u64) -> Ordered
     requires { ⌜ Levelled (now levels) (now index) seat 1 × (pattern < 256) ⌝ }
     ensures { λ r. ⌜ InOrder (seatCost (now (levels .entry)) (now (index .entry)) seat 0) pattern (r .low) (r .high) ⌝ }
     ensures small { λ r. ⌜ (r .low < 2 ^ 41) × (r .high < 2 ^ 41) ⌝ }
@@ -150,7 +151,8 @@ fn fill_two(row: &mut [u64], levels: &[i32], index: &[usize; 64], first: usize)
     row[3] = own.high + next.high;
 }
 
-// The row of the group whose first seat is given. Two slots a turn: from the row to the spare one and back.
+// The row of the group whose first seat is given. The first two slots at once, then two a turn: from the row to the spare one
+// and back.
 fn fill_row(
     row: &mut [u64],
     spare: &mut [u64],

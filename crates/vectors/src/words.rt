@@ -1,4 +1,4 @@
-// The functions of words: bits, sums, the map, messages, counts and blocks, each at its borders.
+// The functions of words: bits, sums, the map, messages, counts, sizes, and words moved up and copied, each at its borders.
 use crate::text;
 use word::Word;
 use word::count::Fewest;

@@ -1,4 +1,5 @@
-// Words of up to 64 bits: a bit, sums modulo 2, common ones, comparison and counts; below, the matrix map and messages.
+// Words of up to 64 bits: a bit, sums modulo 2, common ones and comparison; below, counts, the matrix map, messages, and words
+// moved up and copied.
 // Every public function but `place::copies` is total, and every contract reads a word through `wordOf`.
 pub mod count;
 pub mod matrix;

@@ -12,7 +12,7 @@ pub fn above(w: Word, i: usize) -> Word
     if i < 64 { w << i } else { 0 }
 }
 
-// A copy of one word's bits at each one of another; the copies must fit.
+// A copy of b's bits at each one of w; the copies must fit.
 pub fn copies(w: Word, b: Word) -> Word
     requires { ⌜ wordOf w * wordOf b < 2 ^ (2 ^ largest) ⌝ }
     ensures { λ r. ⌜ wordOf r ≡ wordOf w * wordOf b ⌝ }

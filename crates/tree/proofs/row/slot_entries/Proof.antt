@@ -8,7 +8,7 @@ use mir.Syntax.{w32}
 use mir.Val.{toZ, ofZ}
 use mir.ValLaws.{toZ-ofZ}
 use borrow.Author.Needs.{needs, sfits-of}
-use Rattle.rules.specs.Level.{levelAt, slotCost}
+use Rattle.rules.specs.Level.{limit, levelAt, slotCost}
 use Rattle.laws.specs.GreatestDistance.{slot-greatest}
 use Rattle.tree.specs.Costs.{seatCost}
 use Rattle.tree.proofs.row.slot_entries.Statement.{statement}
@@ -51,7 +51,7 @@ returns c =
     in
     let zero = costs .0 ∙ read 0 in
     let one = costs .1 ∙ read 1 in
-    let greatest : (b : ℕ) → cost b ≤ 1638400 = λ b. slot-greatest _ b (s .pre .0 .ranged 0 (omega arith)) in
+    let greatest : (b : ℕ) → cost b ≤ (limit + 256) * (limit + 256) = λ b. slot-greatest _ b (s .pre .0 .ranged 0 (omega arith)) in
     let order = c .in-order .ensures in (
       record {
         lower = order .0 ∙ ap₂ (λ (a b : ℕ). min (a * 256) (b * 256 + s .args .pattern)) zero one;
