@@ -6,10 +6,9 @@ ghost use Prim.Native.Nat.{ℕ, suc, _+_, _*_, _-_, _^_, _<_, _≤_};
 ghost use lib.ListN.{length, getD};
 ghost use Rattle.tree.specs.Costs.{Levelled, RowsRight};
 ghost use Rattle.tree.specs.Lanes.{raised, Turned, Lanes, Merged, Completed, FourCosts, FourRows};
-use crate::cost::slot_costs;
 use crate::row::least;
 use crate::row::less;
-use crate::row::seat_level;
+use crate::slot::bit_entries;
 
 // One step of the merging in the lane that begins at `start`: of t entries a came with bit 0, and the smaller of the two next
 // ones goes to place t. No branch goes by the data.
@@ -92,12 +91,11 @@ fn lane_costs(
     requires { ⌜ (length (now zero) ≡ 4) × (length (now one) ≡ 4) ⌝ }
     ensures { λ _. ⌜ FourCosts (now (levels .entry)) (now (index .entry)) first t (now (zero .exit)) (now (one .exit)) 4 ⌝ }
 {
-    let pattern: u64 = 1 << t;
     let mut k = 0;
     while k < 4 {
-        let costs = slot_costs(seat_level(levels, index, first + k * 8 + t));
-        zero[k] = (costs.zero as u64) * 256;
-        one[k] = (costs.one as u64) * 256 + pattern;
+        let own = bit_entries(levels, index, first + k * 8, t);
+        zero[k] = own.zero;
+        one[k] = own.one;
         k += 1;
     }
 }

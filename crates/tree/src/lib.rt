@@ -5,7 +5,9 @@ mod four;
 mod group;
 mod row;
 mod seat;
+mod slot;
 mod state;
+mod table;
 mod walk;
 
 ghost use mathlib.Core.Path.{_≡_};
@@ -42,7 +44,7 @@ fn search(n: u32, levels: &[i32], frozen: Word, folding: u32, allowance: u32) ->
     if empty < tree.groups {
         return Answer::Refused(Refusal::NoCandidate(empty));
     }
-    let rows = row::rows(levels, &index, tree.groups, tree.size);
+    let rows = table::rows(levels, &index, tree.groups, tree.size);
     let change = group::changes(&index, tree);
     let covered = group::covered(&index, tree);
     let end = walk::walk(&rows, &change, &covered, &shut, tree);

@@ -3,15 +3,13 @@
 ghost use mathlib.Core.Path.{_≡_};
 ghost use mathlib.Core.Bool.{cond};
 ghost use mathlib.Core.List.{_++_};
-ghost use Prim.Native.Nat.{ℕ, suc, _+_, _*_, _^_, _<_, _≤_, min, max};
+ghost use Prim.Native.Nat.{ℕ, suc, _+_, _^_, _<_, _≤_, min, max};
 ghost use lib.Dec.{ltb};
 ghost use lib.ListN.{length, getD, take, drop};
-ghost use Rattle.rules.specs.Level.{levelAt};
 ghost use Rattle.laws.specs.SortedLists.{Rising};
 ghost use Rattle.laws.specs.SortedRows.{doubled};
-ghost use Rattle.tree.specs.Costs.{seatCost, seatRow, InOrder, GroupSize, Levelled, Mirrored, RowsRight};
-use crate::cost::slot_costs;
-use crate::four::fours;
+ghost use Rattle.tree.specs.Costs.{seatCost, seatRow, InOrder, GroupSize, Levelled, Mirrored};
+use crate::slot::bit_entries;
 
 pub(crate) fn least(x: u64, y: u64) -> u64
     ensures { λ r. ⌜ r ≡ min x y ⌝ }
@@ -62,15 +60,6 @@ fn double(from: &[u64], to: &mut [u64], m: usize, zero: u64, one: u64)
     }
 }
 
-// The level at a seat.
-pub(crate) fn seat_level(levels: &[i32], index: &[usize; 64], seat: usize) -> i32
-    requires { ⌜ (seat < 64) × (getD (now index) seat 0 < length (now levels)) ⌝ }
-    ensures { λ r. ⌜ r ≡ levelAt (now (levels .entry)) (getD (now (index .entry)) seat 0) ⌝ }
-{
-    let i = index[seat];
-    levels[i]
-}
-
 // From the row of a group's first t slots, that with slot t.
 fn add_slot(
     from: &[u64],
@@ -85,15 +74,8 @@ fn add_slot(
     requires { ⌜ take (2 ^ t) (now from) ≡ seatRow (now levels) (now index) first t ⌝ }
     ensures { λ _. ⌜ now (to .exit) ≡ seatRow (now (levels .entry)) (now (index .entry)) first (suc t) ++ drop (2 ^ suc t) (now (to .entry)) ⌝ }
 {
-    let m: usize = 1 << t;
-    let costs = slot_costs(seat_level(levels, index, first + t));
-    double(
-        from,
-        to,
-        m,
-        (costs.zero as u64) * 256,
-        (costs.one as u64) * 256 + (m as u64),
-    );
+    let own = bit_entries(levels, index, first, t);
+    double(from, to, 1 << t, own.zero, own.one);
 }
 
 // Two numbers in order.
@@ -114,17 +96,14 @@ fn in_order(x: u64, y: u64) -> Ordered
     }
 }
 
-// The entries of both bits of a slot, in order.
-fn slot_entries(levels: &[i32], index: &[usize; 64], seat: usize, pattern: u64) -> Ordered
-    requires { ⌜ Levelled (now levels) (now index) seat 1 × (pattern < 256) ⌝ }
-    ensures { λ r. ⌜ InOrder (seatCost (now (levels .entry)) (now (index .entry)) seat 0) pattern (r .low) (r .high) ⌝ }
+// The entries of both bits of slot t, in order.
+fn slot_entries(levels: &[i32], index: &[usize; 64], first: usize, t: usize) -> Ordered
+    requires { ⌜ (t < 8) × Levelled (now levels) (now index) first (suc t) ⌝ }
+    ensures { λ r. ⌜ InOrder (seatCost (now (levels .entry)) (now (index .entry)) first t) (2 ^ t) (r .low) (r .high) ⌝ }
     ensures small { λ r. ⌜ (r .low < 2 ^ 41) × (r .high < 2 ^ 41) ⌝ }
 {
-    let costs = slot_costs(seat_level(levels, index, seat));
-    in_order(
-        (costs.zero as u64) * 256,
-        (costs.one as u64) * 256 + pattern,
-    )
+    let own = bit_entries(levels, index, first, t);
+    in_order(own.zero, own.one)
 }
 
 // The row of one slot.
@@ -132,7 +111,7 @@ fn fill_one(row: &mut [u64], levels: &[i32], index: &[usize; 64], first: usize)
     requires { ⌜ Levelled (now levels) (now index) first 1 × (2 ≤ length (now row)) ⌝ }
     ensures { λ _. ⌜ now (row .exit) ≡ seatRow (now (levels .entry)) (now (index .entry)) first 1 ++ drop 2 (now (row .entry)) ⌝ }
 {
-    let own = slot_entries(levels, index, first, 1);
+    let own = slot_entries(levels, index, first, 0);
     row[0] = own.low;
     row[1] = own.high;
 }
@@ -142,8 +121,8 @@ fn fill_two(row: &mut [u64], levels: &[i32], index: &[usize; 64], first: usize)
     requires { ⌜ Levelled (now levels) (now index) first 2 × (4 ≤ length (now row)) ⌝ }
     ensures { λ _. ⌜ now (row .exit) ≡ seatRow (now (levels .entry)) (now (index .entry)) first 2 ++ drop 4 (now (row .entry)) ⌝ }
 {
-    let own = slot_entries(levels, index, first, 1);
-    let next = slot_entries(levels, index, first + 1, 2);
+    let own = slot_entries(levels, index, first, 0);
+    let next = slot_entries(levels, index, first, 1);
     let middle = in_order(own.high + next.low, own.low + next.high);
     row[0] = own.low + next.low;
     row[1] = middle.low;
@@ -153,7 +132,7 @@ fn fill_two(row: &mut [u64], levels: &[i32], index: &[usize; 64], first: usize)
 
 // The row of the group whose first seat is given. The first two slots at once, then two a turn: from the row to the spare one
 // and back.
-fn fill_row(
+pub(crate) fn fill_row(
     row: &mut [u64],
     spare: &mut [u64],
     levels: &[i32],
@@ -176,64 +155,4 @@ fn fill_row(
         add_slot(spare, row, t + 1, levels, index, first);
         t += 2;
     }
-}
-
-// The row of a group at its place in a packed row.
-fn fill_at(
-    packed: &mut [u64],
-    at: usize,
-    spare: &mut [u64],
-    levels: &[i32],
-    index: &[usize; 64],
-    first: usize,
-    size: usize,
-)
-    requires { ⌜ GroupSize size × Levelled (now levels) (now index) first size ⌝ }
-    requires { ⌜ (at + 2 ^ size ≤ length (now packed)) × (2 ^ size ≤ length (now spare)) ⌝ }
-    ensures { λ _. ⌜ now (packed .exit) ≡ take at (now (packed .entry)) ++ (seatRow (now (levels .entry)) (now (index .entry)) first size ++ drop (at + 2 ^ size) (now (packed .entry))) ⌝ }
-{
-    fill_row(&mut packed[at..], spare, levels, index, first, size);
-}
-
-// The rows of all groups, one after the other.
-fn singles(levels: &[i32], index: &[usize; 64], groups: usize, size: usize) -> [[u64; 1024]; 2]
-    requires { ⌜ GroupSize size × Levelled (now levels) (now index) 0 (groups * size) ⌝ }
-    ensures { λ r. ⌜ RowsRight (now (levels .entry)) (now (index .entry)) groups size r ⌝ }
-{
-    let mut table = [[0u64; 1024]; 2];
-    let mut spare = [0u64; 256];
-    let entries: usize = 1 << size;
-    let mut k = 0;
-    while k < groups {
-        let start = k * entries;
-        let row = start / 1024;
-        let at = start % 1024;
-        fill_at(
-            &mut table[row],
-            at,
-            &mut spare,
-            levels,
-            index,
-            k * size,
-            size,
-        );
-        k += 1;
-    }
-    table
-}
-
-// The rows of all groups: four at a time where each has 8 slots and their number goes by fours, else one at a time.
-pub(crate) fn rows(
-    levels: &[i32],
-    index: &[usize; 64],
-    groups: usize,
-    size: usize,
-) -> [[u64; 1024]; 2]
-    requires { ⌜ GroupSize size × Levelled (now levels) (now index) 0 (groups * size) ⌝ }
-    ensures { λ r. ⌜ RowsRight (now (levels .entry)) (now (index .entry)) groups size r ⌝ }
-{
-    if size == 8 && groups % 4 == 0 {
-        return fours(levels, index, groups / 4);
-    }
-    singles(levels, index, groups, size)
 }

@@ -1,26 +1,20 @@
 -- `tree::row::fill_two` meets its contract.
-use Prim.Native.Nat.{ℕ, _+_, _*_, min, max}
-use mathlib.Core.Path.{_≡_, sym, ap, ap₂, _∙_}
+use Prim.Native.Nat.{ℕ, _+_, min, max}
+use mathlib.Core.Path.{sym, ap, ap₂, _∙_}
 use mathlib.Core.List.{List, _++_}
-use native.Mathlib.Nat.{add-zero}
 use native.Mathlib.Omega.{arith}
-use lib.ListN.{getD, set, drop, length-set}
+use lib.ListN.{set, drop, length-set}
 use borrow.Author.Needs.{needs}
-use Rattle.rules.specs.Level.{levelAt, slotCost}
-use Rattle.tree.specs.Costs.{seatCost}
-use Rattle.tree.proofs.Building.{seats-fewer, later-seats}
+use Rattle.tree.proofs.Building.{seats-fewer}
 use Rattle.tree.proofs.FirstRows.{four-alike, two-row, four-stored}
 use Rattle.tree.proofs.row.fill_two.Statement.{statement}
 use Rattle.tree.proofs.row.fill_two.Tie as tie
 
 slot-entries-requires : tie.Need-slot-entries-requires
-slot-entries-requires c κs = (seats-fewer 1 (omega arith) (c .before .pre .0), omega arith)
-
-add-slot-entries : tie.Need-add-slot-entries
-add-slot-entries c = search needs
+slot-entries-requires c κs = (omega arith, seats-fewer 1 (omega arith) (c .before .pre .0))
 
 slot-entries-requires-2 : tie.Need-slot-entries-requires-2
-slot-entries-requires-2 c κs = (later-seats 1 1 (omega arith) (c .before .before .pre .0), omega arith)
+slot-entries-requires-2 c κs = (omega arith, c .before .before .pre .0)
 
 add-in-order : tie.Need-add-in-order
 add-in-order c = search needs
@@ -63,24 +57,17 @@ returns c =
     let own = c .before .before .before .before .before .before .before .before .before .before .slot-entries .ensures .0 in
     let next = c .before .before .before .before .before .before .before .before .before .slot-entries2 .ensures .0 in
     let middle = c .before .before .before .before .in-order .ensures in
-    let cost = seatCost (s .args .levels .now) (s .args .index .now) (s .args .first) in
-    let second : (b : ℕ) → seatCost (s .args .levels .now) (s .args .index .now) (s .args .first + 1) 0 b ≡ cost 1 b =
-    λ b. ap (λ (i : ℕ). slotCost (levelAt (s .args .levels .now) (getD (s .args .index .now) i 0)) b) (add-zero (s .args .first + 1))
-    in
-    let low = next .lower ∙ ap₂ (λ (a b : ℕ). min (a * 256) (b * 256 + 2)) (second 0) (second 1) in
-    let high = next .higher ∙ ap₂ (λ (a b : ℕ). max (a * 256) (b * 256 + 2)) (second 0) (second 1) in
     let rest = drop 4 (s .args .row .now) in
     four-stored (s .args .row .now) _ _ _ _ (s .pre .1)
-    ∙ four-alike rest (ap₂ _+_ (own .lower) low) (middle .0 ∙ ap₂ min (ap₂ _+_ (own .higher) low) (ap₂ _+_ (own .lower) high))
-    (middle .1 ∙ ap₂ max (ap₂ _+_ (own .higher) low) (ap₂ _+_ (own .lower) high)) (ap₂ _+_ (own .higher) high)
-    ∙ sym (ap (λ (l : List ℕ). l ++ rest) (two-row cost))
+    ∙ four-alike rest (ap₂ _+_ (own .lower) (next .lower)) (middle .0 ∙ ap₂ min (ap₂ _+_ (own .higher) (next .lower)) (ap₂ _+_ (own .lower) (next .higher)))
+    (middle .1 ∙ ap₂ max (ap₂ _+_ (own .higher) (next .lower)) (ap₂ _+_ (own .lower) (next .higher))) (ap₂ _+_ (own .higher) (next .higher))
+    ∙ sym (ap (λ (l : List ℕ). l ++ rest) (two-row _))
 
 pub fill-two-spec : {M : Type 1} → statement M
 fill-two-spec =
     tie.close
     (tie.spec
     slot-entries-requires
-    add-slot-entries
     slot-entries-requires-2
     add-in-order
     add-in-order-2

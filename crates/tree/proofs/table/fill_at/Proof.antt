@@ -1,12 +1,12 @@
--- `tree::row::fill_at` meets its contract.
+-- `tree::table::fill_at` meets its contract.
 use Prim.Native.Nat.{_^_}
 use native.Mathlib.Omega.{arith}
 use lib.ListN.{length-take, length-drop}
 use Rattle.tree.specs.Costs.{seatRow}
 use Rattle.tree.proofs.Building.{part-put}
 use borrow.Author.Needs.{needs}
-use Rattle.tree.proofs.row.fill_at.Statement.{statement}
-use Rattle.tree.proofs.row.fill_at.Tie as tie
+use Rattle.tree.proofs.table.fill_at.Statement.{statement}
+use Rattle.tree.proofs.table.fill_at.Tie as tie
 
 mul-fill-row : tie.Need-mul-fill-row
 mul-fill-row c = search needs

@@ -1,4 +1,4 @@
--- `tree::row::singles` meets its contract: before each turn the rows of the first k groups are right.
+-- `tree::table::singles` meets its contract: before each turn the rows of the first k groups are right.
 use Prim.Native.Nat.{_*_, _-_, _≤_}
 use mathlib.Core.Path.{_≡_, refl, sym, _∙_}
 use native.Mathlib.Numerals.{add-one}
@@ -8,8 +8,8 @@ use lib.ListN.{length}
 use lib.Pow.{pow-mono}
 use Rattle.tree.proofs.Building.{size-small}
 use Rattle.tree.proofs.Places.{place, row-entries, group-seats, Filled, filled-none, filled-more}
-use Rattle.tree.proofs.row.singles.Statement.{statement}
-use Rattle.tree.proofs.row.singles.Tie as tie
+use Rattle.tree.proofs.table.singles.Statement.{statement}
+use Rattle.tree.proofs.table.singles.Tie as tie
 
 abbrev Inv-loop : tie.InvT-loop
 Inv-loop levels index groups size table₀ spare₀ entries k₀ table spare k =

@@ -1,11 +1,11 @@
--- `tree::row::rows` meets its contract.
+-- `tree::table::rows` meets its contract.
 use Prim.Native.Nat.{_*_, _/_, _%_}
 use mathlib.Core.Path.{_≡_}
 use native.Mathlib.Omega.{arith}
 use borrow.Author.Needs.{needs}
 use borrow.Author.Tests.{eqb-true}
-use Rattle.tree.proofs.row.rows.Statement.{statement}
-use Rattle.tree.proofs.row.rows.Tie as tie
+use Rattle.tree.proofs.table.rows.Statement.{statement}
+use Rattle.tree.proofs.table.rows.Tie as tie
 
 fours-requires : tie.Need-fours-requires
 fours-requires c κs =
