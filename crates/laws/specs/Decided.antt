@@ -6,7 +6,7 @@ use native.Mathlib.Nat.{zero-mul, mul-one, suc-mul, div-one, zero-div, div-mul-l
 use native.Mathlib.Decide.{ℕ-discrete}
 use native.Mathlib.Omega.{arith}
 use lib.Pow.{pow-pos, shl-shr}
-use lib.Bits.{bitAnd, bitXor, and-comm, xor-lt}
+use lib.Bits.{bitAnd, bitXor, and-lt, xor-lt}
 use lib.Count.{ones, ones-le}
 use lib.Dec.{eqb}
 use borrow.Author.Tests.{eq-eqb, ne-eqb}
@@ -21,7 +21,7 @@ use Rattle.laws.specs.SeatWords.{seat, unseat, seat-lt, seat-bit, unseat
 use Rattle.laws.specs.SeatSums.{seat-xor, unseat-code}
 use Rattle.laws.specs.SeatedDown.{groups-blocks, block-small, seated-down}
 use Rattle.laws.specs.SeatedRow.{blockOf, fillingOf}
-use Rattle.laws.specs.SeatedBlocks.{open-in-seats, open-in-index}
+use Rattle.laws.specs.SeatedBlocks.{common-block}
 
 -- what a walk's word decides with so many groups left: the word without its bits in them
 unfoldable pub decided : ℕ → ℕ → ℕ → ℕ → ℕ
@@ -140,15 +140,21 @@ module _ (n mask F : ℕ) (fits : F < 2 ^ n) (few : ones F ≤ 3) (k w e : ℕ) 
 
   -- the next word has a frozen bit of the group where the filling has one
   freely : eqb (bitAnd next (shutOf n F mask k)) 0 ≡ eqb (bitAnd (fillingOf forced e) (blockOf s k (seat n F mask))) 0
-  freely =
-      rw (and-comm next (shutOf n F mask k), and-comm (fillingOf forced e) (blockOf s k (seat n F mask)), ← block-is)
-      (zero-alike _ _ (open-in-seats n F fits k shut next hk small) (open-in-index n F fits k shut next hk small))
+  freely = zero-alike _ _
+      (λ z. none (sym (seat-unseat n F fits _ (block-small n F fits k _ hk (and-lt s _ shut filling-lt small))) ∙ ap (seat n F) (sym common ∙ z) ∙ seat-none n F))
+      (λ z. common ∙ ap (λ (x : ℕ). unseat n F (x * 2 ^ (k * s))) z ∙ rw (zero-mul (2 ^ (k * s))) (unseat-zero n F))
     where
       shut : ℕ
       shut = blockOf s k (seat n F mask)
 
       small : shut < 2 ^ (2 ^ ones F)
       small = mod-lt _ (pow-pos s)
+
+      common : bitAnd next (shutOf n F mask k) ≡ unseat n F (bitAnd (fillingOf forced e) shut * 2 ^ (k * s))
+      common = rw block-is at (common-block n F fits k shut next small)
+
+      none : bitAnd (fillingOf forced e) shut * 2 ^ (k * s) ≡ 0 → bitAnd (fillingOf forced e) shut ≡ 0
+      none z = sym (shl-shr (bitAnd (fillingOf forced e) shut) (k * s)) ∙ ap (λ (x : ℕ). x / 2 ^ (k * s)) z ∙ zero-div (2 ^ (k * s))
 
   changed : Filled n mask F k w e next
   changed = record {

@@ -112,7 +112,7 @@ module _ (n F s k forced shut : ℕ) where
       go false h = h
 
 module _ (n mask : ℕ) (cost : ℕ → ℕ → ℕ) (F k w : ℕ) (fits : F < 2 ^ n) (few : ones F ≤ 3) (hk : k < groups n F)
-    (hw : w < 2 ^ (2 ^ n)) (clear : (i : ℕ) → i < suc k * 2 ^ ones F → bit w i ≡ 0) where
+    (clear : (i : ℕ) → i < suc k * 2 ^ ones F → bit w i ≡ 0) where
   abbrev forced : ℕ
   forced = blockOf (2 ^ ones F) k (codeword n w)
 

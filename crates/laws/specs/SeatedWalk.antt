@@ -23,7 +23,7 @@ use Rattle.laws.specs.Completions.{Node, node-down, root}
 use Rattle.laws.specs.LeastByWalk.{walk-least-in}
 use Rattle.laws.specs.Seats.{seatIndex, seat-below}
 use Rattle.laws.specs.SeatGroups.{seat-group}
-use Rattle.laws.specs.SeatWords.{seat, unseat, seat-lt, seat-bit, unseat-seat}
+use Rattle.laws.specs.SeatWords.{seat, unseat, seat-bit, unseat-seat}
 use Rattle.laws.specs.SeatedRow.{blockOf, entryCandidates, seated-candidates}
 
 -- the candidates of group k after the word d, from the group's row
@@ -46,7 +46,7 @@ module _ (n mask : ℕ) (cost : ℕ → ℕ → ℕ) (F : ℕ) (rows : ℕ → L
   node-candidates : (k d : ℕ) → k < groups n F → Node n mask F (suc k) d → seatedCandidates n mask F rows k d ≡ candidates n mask cost F k d
   unfolding seatedCandidates
   node-candidates k d hk node =
-      rw (sorted k hk) (rw back at (seated-candidates n mask cost F k (seat n F d) fits few hk (seat-lt n F d) clear (rw back node)))
+      rw (sorted k hk) (rw back at (seated-candidates n mask cost F k (seat n F d) fits few hk clear (rw back node)))
     where
       back : unseat n F (seat n F d) ≡ d
       back = unseat-seat n F fits d (permitted-lt n mask d (node .allowed))

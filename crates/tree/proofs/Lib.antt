@@ -1,6 +1,7 @@
 pub mod Keeping
 pub mod Widening
 pub mod WideningBy
+pub mod Building
 pub mod SeatLoops
 pub mod Tabling
 pub mod WordsDoubled
@@ -19,7 +20,6 @@ pub mod LaneTurns
 pub mod LaneMirrors
 pub mod LaneRows
 pub mod FirstRows
-pub mod Building
 pub mod Places
 pub mod Searching
 pub mod Emptiness

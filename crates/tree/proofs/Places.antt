@@ -1,4 +1,4 @@
--- Where a group's row stands in the table: group sizes, places that fit and do not overlap, and the table with one row more.
+-- The table with one group's row more: its place fits, and overlaps none before it.
 use Prim.Native.Nat.{ℕ, suc, _+_, _*_, _/_, _%_, _^_, _≤_, _<_}
 use mathlib.Core.Path.{_≡_, refl, ap, _∙_}
 use mathlib.Core.List.{List, [], _++_}

@@ -21,7 +21,6 @@ use Rattle.laws.specs.GreatestDistance.{slot-greatest}
 use Rattle.laws.specs.Seats.{seatIndex, seat-below}
 use Rattle.laws.specs.SeatWords.{seat}
 use Rattle.laws.specs.SeatedRow.{blockOf, entryCandidates}
-use Rattle.laws.specs.Decided.{shut-block}
 use Rattle.laws.specs.SeatedWalk.{seatedCandidates, seated-least-in}
 use Rattle.laws.specs.SortedLists.{mem-getD}
 use Rattle.laws.specs.SortedRows.{rowOf, row-length, row-at, row-bound, row-cong, entry-parts}
@@ -35,7 +34,7 @@ use Rattle.tree.specs.States.{empty}
 use Rattle.tree.specs.Search.{Searchable}
 use Rattle.tree.specs.declared.group.Tree.{Tree}
 use Rattle.tree.proofs.SeatLoops.{index-at}
-use Rattle.tree.proofs.Tabling.{size-small, all-indices}
+use Rattle.tree.proofs.Tabling.{size-small, all-indices, frozen-block}
 
 module _ {levels : List ℤ} {g : Tree} (grouped : Grouped g) (given : Searchable (g .n) levels (g .folding)) {index : List ℕ}
     (seated : Seated index (g .n) (g .folding)) where
@@ -111,10 +110,7 @@ module _ {levels : List ℤ} {g : Tree} (grouped : Grouped g) (given : Searchabl
       same-candidates k d hk =
           let n = g .n in
           let folding = g .folding in
-          let block : blockOf (g .size) k (seat n folding (getD shut k 0)) ≡ blockOf (g .size) k (seat n folding mask) =
-          ap (λ (x : ℕ). blockOf (g .size) k (seat n folding x)) (rw (← grouped .sized) at (frozen k hk))
-          ∙ rw (← grouped .sized) at (shut-block n folding (given .fits) mask k (rw (← grouped .all) hk))
-          in
+          let block = frozen-block grouped shut mask frozen k hk in
           ap (λ (b : ℕ). entryCandidates n folding (g .size) k (blockOf (g .size) k (codeword n (seat n folding d))) b (rowAt table (g .size) k)) block
           ∙ ap (λ (z : ℕ). entryCandidates n folding z k (blockOf z k (codeword n (seat n folding d))) (blockOf z k (seat n folding mask)) (rowAt table (g .size) k)) (grouped .sized)
 

@@ -14,7 +14,7 @@ use Rattle.rules.specs.Folding as rules
 use Rattle.laws.specs.Matrix.{codeword-lt}
 use Rattle.laws.specs.SeatWords.{seat}
 use Rattle.laws.specs.SeatedRow.{blockOf, fillingOf, isOpen, entryCandidate}
-use Rattle.laws.specs.Decided.{decided, changeOf, shut-block, Filled, filled}
+use Rattle.laws.specs.Decided.{decided, changeOf, Filled, filled}
 use Rattle.laws.specs.Copied.{change-copied}
 use Rattle.tree.specs.Tables.{Inside, entryAt}
 use Rattle.tree.specs.Costs.{GroupSize}
@@ -24,7 +24,7 @@ use Rattle.tree.specs.declared.group.Tree.{Tree}
 use Rattle.tree.specs.declared.state.Walked.{Walked}
 use Rattle.tree.proofs.Rows.{rest}
 use Rattle.tree.proofs.Building.{by-size}
-use Rattle.tree.proofs.Tabling.{size-small, all-indices, few-groups as at-most}
+use Rattle.tree.proofs.Tabling.{shape, size-small, all-indices, few-groups as at-most, frozen-block}
 
 -- the row of a group among 64 slots is in the table
 in-table : {size : ℕ} (k : ℕ) → GroupSize size → suc k * size ≤ 64 → k * 2 ^ size < 2048
@@ -37,9 +37,6 @@ module _ {rows : List (List ℕ)} {change covered shut : List ℕ} {g : Tree} {k
 
   sized : g .size ≡ 2 ^ ones (g .folding)
   sized = grouped .sized
-
-  shape : GroupSize (g .size)
-  shape = (ones (g .folding), grouped .few, sized)
 
   pub narrow : g .size ≤ 8
   narrow = size-small grouped
@@ -63,7 +60,7 @@ module _ {rows : List (List ℕ)} {change covered shut : List ℕ} {g : Tree} {k
 
   -- every entry of the group's row is in the table
   pub inside : (j : ℕ) → j < 2 ^ (g .size) → Inside (g .size) k j
-  inside j h = record { narrow = narrow; group = in-table k shape seats-fit; entry = h }
+  inside j h = record { narrow = narrow; group = in-table k (shape grouped) seats-fit; entry = h }
 
   -- the pattern that the groups decided force on this one, and its frozen bits in seat order
   abbrev pub forced : ℕ
@@ -107,11 +104,7 @@ module _ {rows : List (List ℕ)} {change covered shut : List ℕ} {g : Tree} {k
     pub open-is : eqb (bitAnd next (getD shut k 0)) 0 ≡ isOpen closed forced e
     open-is =
         let own = rw (← sized) at (given .tables .frozen .1 k (given .begun .within)) in
-        let mask = given .tables .frozen .0 in
-        let block : closed ≡ blockOf (g .size) k (seat (g .n) (g .folding) mask) =
-        ap (λ (x : ℕ). blockOf (g .size) k (seat (g .n) (g .folding) x)) own
-        ∙ rw (← sized) at (shut-block (g .n) (g .folding) (grouped .fits) mask k group-is)
-        in
+        let block = frozen-block grouped shut (given .tables .frozen .0) (given .tables .frozen .1) k (given .begun .within) in
         ap (λ (x : ℕ). eqb (bitAnd next x) 0) own ∙ rw (← sized) at (down .free) ∙ ap (λ (b : ℕ). eqb (bitAnd (fillingOf forced e) b) 0) (sym block)
 
     -- the branch distance leaves room for the groups below

@@ -1,4 +1,4 @@
--- The groups of a folding as the code holds them, and the steps of the loops that put ones at their indices.
+-- Facts on the tree of a folding as the code holds it, and the steps of the loops that put ones at the indices of its groups.
 use Prim.Native.Nat.{ℕ, suc, _+_, _-_, _*_, _%_, _^_, _≤_, _<_}
 use mathlib.Core.Path.{_≡_, sym, ap, ap₂, _∙_}
 use mathlib.Core.List.{List}
@@ -14,13 +14,16 @@ use Rattle.laws.specs.Sums.{sum-zero, sum-split}
 use Rattle.laws.specs.Bits.{power-shifted, bit-beyond, bit-high}
 use Rattle.laws.specs.GroupSizes.{groups-all}
 use Rattle.laws.specs.Seats.{seatIndex}
-use Rattle.laws.specs.SeatWords.{unseat, unseatBelow, unseat-lt}
+use Rattle.laws.specs.SeatWords.{seat, unseat, unseatBelow, unseat-lt}
+use Rattle.laws.specs.SeatedRow.{blockOf}
 use Rattle.laws.specs.SeatedBlocks.{unseat-block}
-use Rattle.laws.specs.Decided.{shutOf}
+use Rattle.laws.specs.Decided.{shutOf, shut-block}
 use Rattle.laws.specs.Copied.{shut-is}
 use Rattle.tree.specs.declared.group.Tree.{Tree}
-use Rattle.tree.specs.Grouping.{Grouped}
+use Rattle.tree.specs.Costs.{GroupSize}
+use Rattle.tree.specs.Grouping.{Grouped, Shut}
 use Rattle.tree.specs.Seating.{Seated}
+use Rattle.tree.proofs.Building as sizes
 use Rattle.tree.proofs.SeatLoops.{index-at, index-fits, unseat-next}
 
 -- the number of m ones has a one at each index below m
@@ -36,9 +39,13 @@ module _ {g : Tree} (given : Grouped g) where
   pub some-size : 0 < g .size
   some-size = rw (given .sized) (pow-pos (ones (g .folding)))
 
-  -- and at most 8
+  -- 1, 2, 4 or 8 of them
+  pub shape : GroupSize (g .size)
+  shape = (ones (g .folding), given .few, given .sized)
+
+  -- at most 8
   pub size-small : g .size ≤ 8
-  size-small = rw (given .sized) (pow-mono {j = 3} (given .few))
+  size-small = sizes.size-small shape
 
   -- the groups have all indices
   pub all-indices : g .groups * g .size ≡ 2 ^ g .n
@@ -47,6 +54,13 @@ module _ {g : Tree} (given : Grouped g) where
   -- there are no more groups than slots in the largest block
   pub few-groups : g .groups ≤ 64
   few-groups = omega (arith, mul-le-mul-left (g .groups) some-size, mul-one (g .groups), all-indices, pow-mono {j = 6} (given .small))
+
+  -- a group's frozen indices are those of the mask, in seat order too
+  pub frozen-block : (shut : List ℕ) (mask : ℕ) → Shut shut g mask → (k : ℕ) → k < g .groups
+      → blockOf (g .size) k (seat (g .n) (g .folding) (getD shut k 0)) ≡ blockOf (g .size) k (seat (g .n) (g .folding) mask)
+  frozen-block shut mask frozen k h =
+      ap (λ (x : ℕ). blockOf (g .size) k (seat (g .n) (g .folding) x)) (rw (← given .sized) at (frozen k h))
+      ∙ rw (← given .sized) at (shut-block (g .n) (g .folding) (given .fits) mask k (rw (← given .all) h))
 
   -- the first seat of a group
   pub first-seat : {k : ℕ} → k < g .groups → k * g .size < 2 ^ g .n

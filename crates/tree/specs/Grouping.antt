@@ -26,7 +26,7 @@ Covered l g = (k : ℕ) → k < g .groups → getD l k 0 ≡ coveredOf (g .n) (g
 abbrev pub Shut : List ℕ → Tree → ℕ → Type 0
 Shut l g mask = (k : ℕ) → k < g .groups → getD l k 0 ≡ shutOf (g .n) (g .folding) mask k
 
--- the first m words, and behind them what a function makes of each
+-- the first m words, and behind them what a function makes of each; of what stands behind those nothing is said
 pub record Doubled (before after : List ℕ) (m : ℕ) (f : ℕ → ℕ) : Type 0 where
   pub kept : (u : ℕ) → u < m → getD after u 0 ≡ getD before u 0
   pub added : (u : ℕ) → u < m → getD after (m + u) 0 ≡ f (getD before u 0)

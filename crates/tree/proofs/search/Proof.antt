@@ -11,6 +11,7 @@ use Rattle.tree.specs.Grouping.{Grouped}
 use Rattle.tree.specs.Empty.{firstEmpty}
 use Rattle.tree.specs.Search.{Searchable}
 use Rattle.tree.specs.declared.group.Tree.{Tree}
+use Rattle.tree.proofs.Tabling.{shape}
 use Rattle.tree.proofs.Emptiness.{few-shut}
 use Rattle.tree.proofs.Searching.{levelled, tables-right, walked}
 use Rattle.tree.proofs.Found.{Ends, used-up, enough, distance-fits, visits-fit, found-right, answer-seven, answer-eight, answer-found}
@@ -66,7 +67,7 @@ returns c =
 rows-requires : tie.Need-rows-requires
 rows-requires c κs =
     let seats = c .before .before .before .before .before .before .before in
-    ((_, grouped seats .few, grouped seats .sized), levelled (grouped seats) (given seats) (seated seats))
+    (shape (grouped seats), levelled (grouped seats) (given seats) (seated seats))
 
 changes-requires : tie.Need-changes-requires
 changes-requires c κs =
