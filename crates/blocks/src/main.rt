@@ -1,4 +1,4 @@
 // The records on standard input, decoded.
 fn main() {
-    stream::run();
+    stream::run(b"blocks");
 }

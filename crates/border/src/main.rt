@@ -1,4 +1,4 @@
 // The same program as `blocks`, over recorded blocks at the borders.
 fn main() {
-    stream::run();
+    stream::run(b"border");
 }

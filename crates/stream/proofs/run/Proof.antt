@@ -1,6 +1,6 @@
--- `stream::run` ends: each turn has a record number that is larger, and there is a largest.
+-- `stream::run` ends: each turn that goes on has a larger record number, and there is a largest.
 use Prim.Native.Nat.{ℕ, _-_, _≤_}
-use mathlib.Core.Path.{_≡_, sym}
+use mathlib.Core.Path.{_≡_, refl, sym, _∙_}
 use native.Mathlib.Omega.{arith}
 use lib.ListN.{length, length-replicate}
 use borrow.Author.Needs.{needs}
@@ -8,40 +8,56 @@ use Rattle.stream.proofs.run.Statement.{statement}
 use Rattle.stream.proofs.run.Tie as tie
 
 abbrev Inv-loop : tie.InvT-loop
-Inv-loop piece₀ out₀ number₀ piece out number = (28800 ≡ length piece) × ((11256 ≡ length out) × (number ≤ 4294967295))
+Inv-loop name bytes₀ out₀ number₀ bytes out number = (length bytes ≡ length bytes₀) × (length out ≡ length out₀) × (number ≤ 4294967295)
 
 abbrev μ-loop : tie.MeasureT-loop
-μ-loop piece₀ out₀ number₀ piece out number = 4294967295 - number
+μ-loop name bytes₀ out₀ number₀ bytes out number = 4294967295 - number
 
 loop-holds : tie.Need-loop-holds Inv-loop μ-loop
-loop-holds c = (sym (length-replicate {A = ℕ} 28800 0), (sym (length-replicate {A = ℕ} 11256 0), omega arith))
+loop-holds c = (refl, refl, omega arith)
 
 slice-aggregate-pass : tie.Need-slice-aggregate-pass Inv-loop μ-loop
-slice-aggregate-pass c = c .before .loop .inv .0
+slice-aggregate-pass c = sym (c .before .loop .inv .0 ∙ length-replicate {A = ℕ} _ 0)
 
 slice-aggregate-pass-2 : tie.Need-slice-aggregate-pass-2 Inv-loop μ-loop
-slice-aggregate-pass-2 c = c .before .before .loop .inv .1 .0
+slice-aggregate-pass-2 c = sym (c .before .before .loop .inv .1 ∙ length-replicate {A = ℕ} _ 0)
 
 pass-requires : tie.Need-pass-requires Inv-loop μ-loop
-pass-requires c κs = search needs
+pass-requires c κs =
+    (omega (arith, c .before .before .loop .inv .0, length-replicate {A = ℕ} 28800 0), omega (arith, c .before .before .loop .inv .1, length-replicate {A = ℕ} 11256 0))
 
-sub-if2 : tie.Need-sub-if2 Inv-loop μ-loop
-sub-if2 c = omega arith
+enum-known-next : tie.Need-enum-known-next Inv-loop μ-loop
+enum-known-next c = search needs
+
+loop-less : tie.Need-loop-less Inv-loop μ-loop
+loop-less c = omega (arith, rw (c .before .next .given .1) at (c .before .before .before .before .before .pass .ensures))
+
+loop-again : tie.Need-loop-again Inv-loop μ-loop
+loop-again c = search needs
+
+enum-told : tie.Need-enum-told Inv-loop μ-loop
+enum-told c = search needs
 
 returns : tie.Need-returns Inv-loop μ-loop
 returns c = search needs
 
-add-number : tie.Need-add-number Inv-loop μ-loop
-add-number c = omega arith
+enum-told-2 : tie.Need-enum-told-2 Inv-loop μ-loop
+enum-told-2 c = search needs
 
-loop-less : tie.Need-loop-less Inv-loop μ-loop
-loop-less c = omega arith
-
-loop-again : tie.Need-loop-again Inv-loop μ-loop
-loop-again c = (omega arith, (omega arith, omega arith))
+not-read-requires : tie.Need-not-read-requires Inv-loop μ-loop
+not-read-requires c κs = search needs
 
 returns-2 : tie.Need-returns-2 Inv-loop μ-loop
 returns-2 c = search needs
+
+enum-told-3 : tie.Need-enum-told-3 Inv-loop μ-loop
+enum-told-3 c = search needs
+
+not-written-requires : tie.Need-not-written-requires Inv-loop μ-loop
+not-written-requires c κs = search needs
+
+returns-3 : tie.Need-returns-3 Inv-loop μ-loop
+returns-3 c = search needs
 
 pub run-spec : {M : Type 1} → statement M
 run-spec =
@@ -53,9 +69,14 @@ run-spec =
     slice-aggregate-pass
     slice-aggregate-pass-2
     pass-requires
-    sub-if2
-    returns
-    add-number
+    enum-known-next
     loop-less
     loop-again
-    returns-2)
+    enum-told
+    returns
+    enum-told-2
+    not-read-requires
+    returns-2
+    enum-told-3
+    not-written-requires
+    returns-3)
