@@ -98,8 +98,8 @@ rows =
     -- k, l
     ∷ decodes 1 0x00 (pos 0 ∷ pos 0 ∷ []) 0 0 131072 6
     ∷ decodes 1 0x00 (pos 0 ∷ pos 0 ∷ []) 1 0 131072 4
-    -- n: samples 1/512, 3/512, 5/512, -3/512, -0.0; levels 0, 2, 2, -2, 0. `fin s m e` is the float ±m * 2 ^ e, negative where s is
-    -- true; `negsuc 8` is -9, and 2 ^ -9 is 1/512
+    -- n: samples 1/512, 3/512, 5/512, -3/512, -0.0; levels 0, 2, 2, -2, 0. `fin s m e` is the float ±m * 2 ^ e, negative where
+    -- s is true; `negsuc 8` is -9, and 2 ^ -9 is 1/512
     ∷ samples (fin false 1 (negsuc 8)) (pos 0)
     ∷ samples (fin false 3 (negsuc 8)) (pos 2)
     ∷ samples (fin false 5 (negsuc 8)) (pos 2)
