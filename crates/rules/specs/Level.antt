@@ -10,7 +10,7 @@ use lib.ListN.{getD}
 use Rattle.rules.specs.Below.{sumBelow, listBelow}
 use Rattle.rules.specs.Word.{bit, codeword, permitted}
 
--- "The ideal level of bit 1 is +256, of bit 0 is -256."
+-- "The ideal level of bit 1 is +256, of bit 0 is -256." (`pos k` is the number k, and `negsuc k` is -(k + 1).)
 abbrev pub ideal : ℕ → ℤ
 ideal zero = negsuc 255
 ideal (suc b) = pos 256

@@ -1,3 +1,11 @@
+-- Document 01 as definitions, a file for each part of it, in reading order. A definition stands under the sentence that it says.
+-- How to read one: `f : ℕ → ℤ → Bool` says that f takes a number from 0 up and one of either sign, and gives true or false; the
+-- lines below it say what `f a b` is. Cases go by form: `zero` or `suc m` (m + 1), `none` or `some v`, `[]` or `a ∷ rest`.
+-- `λ i. e` is the function that gives e for i. `l ++ m` is the list l and then m. `r .x` is the field x of the record r.
+-- `cond t a b` is a if the test t is true, else b; `choose t (λ _. a) (λ _. b)` is the same. `eqb`, `ltb`, `leb` test =, <, ≤.
+-- `a / b` is the whole quotient, `a % b` the remainder, `a - b` is 0 where b is greater. `getD l i v` is element i of l, or v.
+-- `ones w` counts the one bits of w, `bitAnd v w` has those of both. `natAbs z` is z without its sign, `y -ℤ z` is y minus z.
+-- `Unit`, whose one value is `tt`, says nothing. `abbrev`, `unfoldable`, `unfolding`, `pub` and `use` are for the checker alone.
 pub mod Below
 pub mod Word
 pub mod Level

@@ -91,13 +91,15 @@ rows =
     ∷ decodes 3 0x05 sent 0 1 0 14
     ∷ decodes 3 0x05 sent 4 1 0 8
     ∷ decodes 3 0x05 sent 7 1 0 2
-    -- i, j
+    -- i: slot 0 of it set to -255; message 1, distance 261121
     ∷ decodesAlways 3 0x05 (set sent 0 (negsuc 254)) 1 261121
+    -- j: slot 0 set to -256; message 0, distance 262144
     ∷ decodesAlways 3 0x05 (set sent 0 (negsuc 255)) 0 262144
     -- k, l
     ∷ decodes 1 0x00 (pos 0 ∷ pos 0 ∷ []) 0 0 131072 6
     ∷ decodes 1 0x00 (pos 0 ∷ pos 0 ∷ []) 1 0 131072 4
-    -- n: samples 1/512, 3/512, 5/512, -3/512, -0.0
+    -- n: samples 1/512, 3/512, 5/512, -3/512, -0.0; levels 0, 2, 2, -2, 0. `fin s m e` is the float ±m * 2 ^ e, negative where
+    -- s is true; `negsuc 8` is -9, and 2 ^ -9 is 1/512
     ∷ samples (fin false 1 (negsuc 8)) (pos 0)
     ∷ samples (fin false 3 (negsuc 8)) (pos 2)
     ∷ samples (fin false 5 (negsuc 8)) (pos 2)

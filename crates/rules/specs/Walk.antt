@@ -55,7 +55,8 @@ unfoldable pub candidates : ℕ → ℕ → (ℕ → ℕ → ℕ) → ℕ → �
 candidates n mask cost folding k d =
     inOrder (map (candidate n cost d (group n folding k)) (fillings mask (group n folding k)))
 
--- what a walk keeps, when it must "leave this node with its remaining candidates", and how it keeps a word
+-- what a walk keeps, when it must "leave this node with its remaining candidates", and how it keeps a word. A reader may take it
+-- for `keepBest` below throughout, the only one that these rules use: the parameter is there for later walks.
 pub record Keeping : Type 1 where
   pub Kept : Type 0
   pub leaves : Kept → ℕ → Bool
