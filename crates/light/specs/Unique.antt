@@ -4,9 +4,8 @@ use mathlib.Core.Path.{_≡_, refl, ap}
 use mathlib.Core.List.{List}
 use lib.IntN.{ℤ}
 use lib.Ieee.{Float}
-use Rattle.rules.specs.Sample.{levelOf}
 use Rattle.rules.specs.Assembling as rules
-use Rattle.rules.specs.Answers.{takeAnswer, takeLeft}
+use Rattle.rules.specs.Answers.{levelAnswer, takeAnswer, takeLeft}
 use Rattle.refusal.specs.declared.Refusal.{Refusal}
 use Rattle.refusal.specs.Number.{refusalOf}
 use Rattle.refusal.specs.Unique.{refusal-injective}
@@ -49,7 +48,7 @@ handed-equal q r v a = λ i. record { verdict = v i; assembler = a i }
 -- ---- each contract has one result
 
 -- `level`
-pub one-level : (s : Float) (q r : Quantised) → quantisedOf q ≡ levelOf s → quantisedOf r ≡ levelOf s → q ≡ r
+pub one-level : (s : Float) (q r : Quantised) → quantisedOf q ≡ levelAnswer s → quantisedOf r ≡ levelAnswer s → q ≡ r
 one-level s q r c d = quantised-injective q r (one-answer c d)
 
 -- `Assembler::new`

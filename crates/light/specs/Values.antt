@@ -1,8 +1,7 @@
 -- How the values of this crate read as those of the rules. The contracts speak through these definitions.
 use Prim.Native.Nat.{ℕ}
 use mathlib.Core.Path.{_≡_}
-use mathlib.Core.Option.{Option, none, some}
-use mathlib.Core.List.{List}
+use mathlib.Core.List.{List, [], _∷_}
 use lib.IntN.{ℤ}
 use Rattle.rules.specs.Assembling as rules
 use Rattle.rules.specs.Refusals.{Answer, refused, done}
@@ -17,10 +16,10 @@ use Rattle.light.specs.declared.Verdict.the-variants.{Done, Refused}
 use Rattle.light.specs.declared.Assembler.{Assembler}
 use Rattle.light.specs.declared.Handed.{Handed}
 
--- the level, or nothing
-abbrev pub quantisedOf : Quantised → Option ℤ
-quantisedOf (Level z) = some z
-quantisedOf NotFinite = none
+-- the level, or refusal 11, which names sample 0
+abbrev pub quantisedOf : Quantised → Answer ℤ
+quantisedOf (Level z) = done z
+quantisedOf NotFinite = refused (record { number = 11; values = 0 ∷ [] })
 
 -- the reading
 abbrev pub readingOf : Reading → rules.Reading

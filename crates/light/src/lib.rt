@@ -2,10 +2,9 @@
 ghost use mathlib.Core.Path.{_≡_};
 ghost use Prim.Native.Nat.{_+_, _≤_, _<_};
 ghost use lib.ListN.{length, take};
-ghost use Rattle.rules.specs.Sample.{levelOf};
 ghost use Rattle.rules.specs.Assembling as rules;
 ghost use Rattle.rules.specs.Refusals.{isWrongSize};
-ghost use Rattle.rules.specs.Answers.{takeAnswer, takeLeft};
+ghost use Rattle.rules.specs.Answers.{levelAnswer, takeAnswer, takeLeft};
 ghost use Rattle.light.specs.Values.{quantisedOf, readingOf, assemblerOf, room, Hands, Starts, Gives};
 ghost use Rattle.light.specs.Steps.{isWrong, Fills, Takes};
 use refusal::Refusal;
@@ -33,7 +32,7 @@ pub enum Reading {
     Erased,
 }
 
-// What becomes of a sample: NaN and infinities have no level.
+// What becomes of a sample: its level, or refusal 11 for NaN and infinities.
 pub enum Quantised {
     Level(i32),
     NotFinite,
@@ -58,9 +57,9 @@ pub struct Handed {
     pub assembler: Assembler,
 }
 
-// The level of a sample.
+// The level of a sample; refusal 11.
 pub fn level(s: f32) -> Quantised
-    ensures { λ r. ⌜ quantisedOf r ≡ levelOf s ⌝ }
+    ensures { λ r. ⌜ quantisedOf r ≡ levelAnswer s ⌝ }
 {
     if sample::is_finite(s) {
         let x = sample::near(s);

@@ -1,14 +1,16 @@
 -- Document 01, "Orders": what each call answers, and what it leaves in lent memory or hands back.
 use Prim.Native.Nat.{ℕ}
-use mathlib.Core.Option.{Option}
+use mathlib.Core.Option.{Option, none, some}
 use mathlib.Core.List.{List, [], _∷_}
 use lib.IntN.{ℤ}
+use lib.Ieee.{Float}
 use Rattle.rules.specs.Word.{codeword, spread, gather}
 use Rattle.rules.specs.Level.{idealLevels, levelCost, wordDistance, leastWord}
 use Rattle.rules.specs.Guard.{guardOf}
+use Rattle.rules.specs.Sample.{levelOf}
 use Rattle.rules.specs.Walk.{walkVisits}
 use Rattle.rules.specs.Assembling.{Assembler, Reading, start, takeReading, givenOut}
-use Rattle.rules.specs.Refusals.{Refusal, Answer, answer, left, wrongSize, wrongAssembler, wrongLength, wrongMask, wrongFolding, wideFolding, outOfRange, noCandidate, smallAllowance, wrongMessage, noRoom, notFinite, notFull}
+use Rattle.rules.specs.Refusals.{Refusal, Answer, refused, done, answer, left, wrongSize, wrongAssembler, wrongLength, wrongMask, wrongFolding, wideFolding, outOfRange, noCandidate, smallAllowance, wrongMessage, noRoom, notFinite, notFull}
 
 -- "Success of encode carries d and x"
 pub record Encoded : Type 0 where
@@ -38,6 +40,15 @@ encodeLevelsLeft n slice mask message =
 -- "Guard: 1, 3."
 unfoldable pub guardAnswer : ℕ → ℕ → Answer (Option ℕ)
 guardAnswer n mask = answer (wrongSize n ∷ wrongMask n mask ∷ []) (guardOf n mask)
+
+-- 11 for a sample that has no level, "0 or 1 names the first such sample": a sample alone is sample 0
+abbrev pub orNotFinite : Option ℤ → Answer ℤ
+orNotFinite none = refused (record { number = 11; values = 0 ∷ [] })
+orNotFinite (some level) = done level
+
+-- "The level of sample s"; "NaN and infinities are refused."
+unfoldable pub levelAnswer : Float → Answer ℤ
+levelAnswer s = orNotFinite (levelOf s)
 
 -- "New assembler: 1."; room is how many levels an assembler has room for
 unfoldable pub newAnswer : ℕ → ℕ → Answer Assembler

@@ -1,10 +1,9 @@
 -- Demand 3 of `tree::decode` itself: the contract is that of src/, as the check reads it, at lifetimes κs, arguments a, result r
 -- and lent memory v after the call. The arguments are n, the levels, the frozen mask, the folding and the allowance.
 use Prim.Native.Nat.{ℕ, _^_, _≤_, _<_}
-use mathlib.Core.Path.{_≡_, refl, sym, ap, _∙_}
+use mathlib.Core.Path.{_≡_, sym, ap, _∙_}
 use mathlib.Core.Option.{some}
 use mathlib.Core.List.{List}
-use native.Mathlib.Omega.{arith}
 use lib.Count.{ones}
 use lib.IntN.{ℤ}
 use denote.Ref.{now}
@@ -12,12 +11,12 @@ use Rattle.rules.specs.Word.{messageBits}
 use Rattle.rules.specs.Level.{levelCost}
 use Rattle.rules.specs.Guard.{guardOf}
 use Rattle.rules.specs.Walk.{walkVisits}
-use Rattle.rules.specs.Refusals.{done}
 use Rattle.rules.specs.Answers as rules
 use Rattle.laws.specs.Answers.{Shown}
 use Rattle.word.specs.Words.{wordOf}
 use Rattle.tree.specs.Reading.{decodedOf, answerOf}
 use Rattle.tree.specs.Demand3.{sentLevels, movedInAll, below-guard, LostAtGuard}
+use Rattle.tree.specs.Unique.{is-found}
 use Rattle.tree.specs.declared.Answer as answer
 use Rattle.tree.specs.declared.Decoded as decoded
 use Rattle.tree.proofs.decode.Reads as decode
@@ -38,19 +37,12 @@ decode-below-guard κs a r v learnt guard message has-guard inside near found fi
 -- its message is 0, which was not sent
 abbrev pub AtGuard : ℕ → List ℤ → ℕ → ℕ → ℕ → answer.Answer → Type 0
 AtGuard n received mask folding allowance r =
-    (guard : ℕ) (block : LostAtGuard n mask guard) → received ≡ block .received → folding < 2 ^ n → ones folding ≤ 3
+    (guard : ℕ) (loss : LostAtGuard n mask guard) → received ≡ loss .block .received → folding < 2 ^ n → ones folding ≤ 3
     → walkVisits n mask (levelCost received) folding ≤ allowance
     → (found : decoded.Decoded) × (r ≡ answer.the-variants.Found found) × (wordOf (found .message) ≡ 0)
 
--- an answer read as a success is one
-finished : (r : answer.Answer) (a : rules.Decoded) → answerOf r ≡ done a → a .message ≡ 0
-    → (found : decoded.Decoded) × (r ≡ answer.the-variants.Found found) × (wordOf (found .message) ≡ 0)
-finished (answer.the-variants.Found found) a e zero =
-    let same : decodedOf found ≡ a = cc in
-    (found, refl, ap (λ (b : rules.Decoded). b .message) same ∙ zero)
-finished (answer.the-variants.Refused r) a e zero = let z : _≡_ {A = ℕ} 0 1 = cc in absurd (omega arith)
-
 pub decode-at-guard : Shown decode.Learnt (λ κs a r. AtGuard (a .0) (now (a .1 .0)) (wordOf (a .1 .1 .0)) (a .1 .1 .1 .0) (a .1 .1 .1 .1 .0) r)
-decode-at-guard κs a r v learnt guard block same fits few enough =
-    let lost = block .lost (a .1 .1 .1 .0) (a .1 .1 .1 .1 .0) fits few (rw same at enough) in
-    finished r (lost .0) ((rw same at learnt) ∙ lost .1) (lost .2)
+decode-at-guard κs a r v learnt guard loss same fits few enough =
+    let lost = loss .lost (a .1 .1 .1 .0) (a .1 .1 .1 .1 .0) fits few (rw same at enough) in
+    let f = is-found r (lost .0) ((rw same at learnt) ∙ lost .1) in
+    (f .0, f .1, ap (λ (b : rules.Decoded). b .message) (f .2) ∙ lost .2)

@@ -1,7 +1,7 @@
 -- Demand 3, over the answers of decoding. A message is sent as the ideal levels of its codeword, and each slot of the block is
 -- received moved by some amount. If all amounts together are below the guard of the mask, every finished answer of decoding is
 -- the message that was sent, under every folding and allowance. At the guard this fails: for every mask that has a guard some
--- message, moved by the guard in all, is decoded as another one.
+-- block, moved by the guard in all, has the least word of another message, and is decoded as that.
 use Prim.Native.Nat.{ℕ, _^_, _≤_, _<_}
 use mathlib.Core.Path.{_≡_, sym, ap, _∙_}
 use mathlib.Core.Logic.{_≢_}
@@ -75,9 +75,8 @@ module _ (n mask guard : ℕ) (has-guard : guardOf n mask ≡ some guard) where
       let r = accepted-done n received mask folding allowance given enough in
       (r .0, r .1, below-guard message inside received near folding allowance (r .0) (r .1))
 
--- A message, and a block of levels in range moved by the guard in all, that decoding answers with message 0, another one: under
--- every folding that is not refused, with every allowance that suffices for the walk.
-pub record LostAtGuard (n mask guard : ℕ) : Type 0 where
+-- A message, and a block of levels in range moved from it by the guard in all, whose least word is word 0, that of another message.
+pub record LeastElsewhere (n mask guard : ℕ) : Type 0 where
   pub message : ℕ
   pub inside : message < 2 ^ messageBits n mask
   pub other : message ≢ 0
@@ -85,13 +84,11 @@ pub record LostAtGuard (n mask guard : ℕ) : Type 0 where
   pub long : length received ≡ 2 ^ n
   pub ranged : (i : ℕ) → i < 2 ^ n → inRange (levelAt received i) ≡ true
   pub moved : movedInAll n (sentLevels n mask message) received ≡ guard
-  pub lost : (folding allowance : ℕ) → folding < 2 ^ n → ones folding ≤ 3
-      → walkVisits n mask (levelCost received) folding ≤ allowance
-      → (a : Decoded) × (decodeAnswer n received mask folding allowance ≡ done a) × (a .message ≡ 0)
+  pub least : Least n mask (levelCost received) 0
 
 -- At the guard: every mask that has one has such a message and such a block.
-pub at-the-guard : (n mask guard : ℕ) → 1 ≤ n → n ≤ 6 → mask < 2 ^ (2 ^ n) → guardOf n mask ≡ some guard → LostAtGuard n mask guard
-at-the-guard n mask guard some-slots small fits has-guard =
+pub least-elsewhere : (n mask guard : ℕ) → guardOf n mask ≡ some guard → LeastElsewhere n mask guard
+least-elsewhere n mask guard has-guard =
     let r = at-guard n mask guard has-guard in
     let word : spread n mask (gather n mask (r .sent)) ≡ r .sent = spread-gather n mask (r .sent) (r .allowed) in
     record {
@@ -102,25 +99,39 @@ at-the-guard n mask guard some-slots small fits has-guard =
       long = r .long;
       ranged = r .ranged;
       moved = moved-in-all n mask (gather n mask (r .sent)) (r .levels) ∙ ap (totalMoved n (r .levels)) word ∙ r .moved;
-      lost = λ folding allowance folding-fits few enough. answered (r .levels) (r .least) folding allowance
+      least = r .least;
+    }
+
+-- Such a block is answered with message 0, which was not sent: under every folding that is not refused, with every allowance that
+-- suffices for the walk.
+pub record LostAtGuard (n mask guard : ℕ) : Type 0 where
+  pub block : LeastElsewhere n mask guard
+  pub lost : (folding allowance : ℕ) → folding < 2 ^ n → ones folding ≤ 3
+      → walkVisits n mask (levelCost (block .received)) folding ≤ allowance
+      → (a : Decoded) × (decodeAnswer n (block .received) mask folding allowance ≡ done a) × (a .message ≡ 0)
+
+-- And so it is for every mask that has a guard and that decoding does not refuse.
+pub at-the-guard : (n mask guard : ℕ) → 1 ≤ n → n ≤ 6 → mask < 2 ^ (2 ^ n) → guardOf n mask ≡ some guard → LostAtGuard n mask guard
+at-the-guard n mask guard some-slots small fits has-guard =
+    let elsewhere = least-elsewhere n mask guard has-guard in
+    record {
+      block = elsewhere;
+      lost = λ folding allowance folding-fits few. answered elsewhere folding allowance
           (record {
             some-slots = some-slots;
             small = small;
-            long = r .long;
+            long = elsewhere .long;
             mask-fits = fits;
             folding-fits = folding-fits;
             few = few;
-            ranged = r .ranged;
-          })
-          enough;
+            ranged = elsewhere .ranged;
+          });
     }
   where
-    answered : (levels : List ℤ) → Least n mask (levelCost levels) 0 → (folding allowance : ℕ) → Accepted n levels mask folding
-        → walkVisits n mask (levelCost levels) folding ≤ allowance
-        → (a : Decoded) × (decodeAnswer n levels mask folding allowance ≡ done a) × (a .message ≡ 0)
-    answered levels least folding allowance given enough =
-        let r = accepted-done n levels mask folding allowance given enough in (
-          r .0,
-          r .1,
-          r .2 .message ∙ ap (gather n mask) (least-unique n mask (levelCost levels) (r .0 .d) 0 (r .2 .least) least) ∙ gather-zero n mask,
-        )
+    answered : (block : LeastElsewhere n mask guard) (folding allowance : ℕ) → Accepted n (block .received) mask folding
+        → walkVisits n mask (levelCost (block .received)) folding ≤ allowance
+        → (a : Decoded) × (decodeAnswer n (block .received) mask folding allowance ≡ done a) × (a .message ≡ 0)
+    answered block folding allowance given enough =
+        let r = accepted-done n (block .received) mask folding allowance given enough in
+        let zero = least-unique n mask (levelCost (block .received)) (r .0 .d) 0 (r .2 .least) (block .least) in
+        (r .0, r .1, r .2 .message ∙ ap (gather n mask) zero ∙ gather-zero n mask)

@@ -1,29 +1,29 @@
 -- Demand 2 for decoding, read off the answer: what a finished answer holds, and when there is one.
 -- The message decoded is that of the least word under every folding, and decoding gives up exactly when the walk needs more
--- visits than are allowed.
+-- visits than are allowed: past refusals 1 to 6 there is such an answer or refusal 8, and neither comes from anywhere else.
 use Prim.Native.Nat.{ℕ, suc, _-_, _^_, _≤_, _<_}
 use mathlib.Core.Path.{_≡_, refl, sym, ap, _∙_}
 use mathlib.Core.Bool.{true, false, not}
-use mathlib.Core.Option.{none}
-use mathlib.Core.List.{List, [], _∷_}
+use mathlib.Core.Option.{Option, none, Option·none-ne-some}
+use mathlib.Core.List.{List, [], _∷_, _++_}
 use native.Mathlib.Omega.{arith}
 use lib.Count.{ones}
-use lib.Dec.{ltb}
+use lib.Dec.{leb, ltb, eqb}
 use lib.IntN.{ℤ}
 use lib.ListN.{length}
 use lib.Pow.{pow-pos}
-use borrow.Author.Tests.{ltb-false, leb-false, eqb-true, not-false, lt-ltb, le-ltb, lt-leb, eq-eqb}
+use borrow.Author.Tests.{ltb-true, ltb-false, leb-false, eqb-true, not-false, lt-ltb, le-ltb, lt-leb, eq-eqb}
 use Rattle.rules.specs.Below.{firstBelow}
 use Rattle.rules.specs.Word.{codeword, gather}
 use Rattle.rules.specs.Level.{inRange, levelAt, levelCost, wordDistance, Least}
 use Rattle.rules.specs.Folding.{group, groups}
 use Rattle.rules.specs.Walk.{fillings, walkVisits}
-use Rattle.rules.specs.Refusals.{refused, done, answer, refuseAt, isEmpty, isWrongSize, wrongSize, wrongLength, noCandidate, smallAllowance}
+use Rattle.rules.specs.Refusals.{Refusal, refused, done, answer, refuseAt, isEmpty, isWrongSize, wrongSize, wrongLength, wrongMask, wrongFolding, wideFolding, outOfRange, noCandidate, smallAllowance}
 use Rattle.rules.specs.Answers.{Decoded, decoded, treeOrder, decodeAnswer}
 use Rattle.laws.specs.Sums.{none-at, none-of}
 use Rattle.laws.specs.Least.{leastWord-least, least-unique}
 use Rattle.laws.specs.Sizes.{or-left, size-le}
-use Rattle.laws.specs.Orders.{passed, not-refused, not-refused-at}
+use Rattle.laws.specs.Orders.{Passed, passed, passed-parts, Without, without-any, without-first, refused-after, other-number, other-number-at, is-refused, not-refused, not-refused-at}
 use Rattle.laws.specs.FillingCount.{unfrozenIn, fillings-number}
 
 -- what refusals 1 to 6 let pass
@@ -58,27 +58,58 @@ never-seven n mask folding =
     ap (refuseAt 7) (none-of (groups n folding) _ (λ t l. filled mask (group n folding (groups n folding - suc t))))
 
 module _ (n : ℕ) (levels : List ℤ) (mask folding allowance : ℕ) where
+  -- refusals 1 to 7 of the order
+  abbrev toSeven : List (Option Refusal)
+  toSeven =
+      wrongSize n ∷ wrongLength n levels ∷ wrongMask n mask ∷ wrongFolding n folding ∷ wideFolding folding ∷ outOfRange n levels
+      ∷ noCandidate n mask folding ∷ []
+
+  -- and refusal 8, which comes last
+  abbrev eight : List (Option Refusal)
+  eight = smallAllowance allowance (walkVisits n mask (levelCost levels) folding) ∷ []
+
+  -- where refusals 1 to 7 are not given the input is accepted
+  accepted : Passed toSeven → Accepted n levels mask folding
+  accepted p =
+      let size = not-refused 1 _ (p .0) in
+      record {
+        some-slots = ltb-false n 1 (or-left (ltb n 1) (ltb 6 n) size);
+        small = size-le n size;
+        long = eqb-true _ _ (not-false _ (not-refused 2 _ (p .1 .0)));
+        mask-fits = leb-false _ _ (not-refused 3 _ (p .1 .1 .0));
+        folding-fits = leb-false _ _ (not-refused 4 _ (p .1 .1 .1 .0));
+        few = ltb-false _ _ (not-refused 5 _ (p .1 .1 .1 .1 .0));
+        ranged = λ i l. not-false _
+            (none-at (2 ^ n) (λ j. not (inRange (levelAt levels j))) (not-refused-at 6 _ (p .1 .1 .1 .1 .1 .0)) i l);
+      }
+
   -- refusals 1 to 6 let the input pass, and the visits are allowed
   pub done-accepted : (a : Decoded) → decodeAnswer n levels mask folding allowance ≡ done a
       → Accepted n levels mask folding × (walkVisits n mask (levelCost levels) folding ≤ allowance) × (decoded n levels mask folding ≡ a)
   unfolding decodeAnswer treeOrder
   done-accepted a e =
-      let r = passed (wrongSize n ∷ wrongLength n levels ∷ treeOrder n levels mask folding allowance) (decoded n levels mask folding) a e in
-      let p = r .0 in
-      let size = not-refused 1 _ (p .0) in (
-        record {
-          some-slots = ltb-false n 1 (or-left (ltb n 1) (ltb 6 n) size);
-          small = size-le n size;
-          long = eqb-true _ _ (not-false _ (not-refused 2 _ (p .1 .0)));
-          mask-fits = leb-false _ _ (not-refused 3 _ (p .1 .1 .0));
-          folding-fits = leb-false _ _ (not-refused 4 _ (p .1 .1 .1 .0));
-          few = ltb-false _ _ (not-refused 5 _ (p .1 .1 .1 .1 .0));
-          ranged = λ i l. not-false _
-              (none-at (2 ^ n) (λ j. not (inRange (levelAt levels j))) (not-refused-at 6 _ (p .1 .1 .1 .1 .1 .0)) i l);
-        },
-        ltb-false allowance _ (not-refused 8 _ (p .1 .1 .1 .1 .1 .1 .1 .0)),
-        r .1,
-      )
+      let r = passed (toSeven ++ eight) (decoded n levels mask folding) a e in
+      let p = passed-parts toSeven eight (r .0) in
+      (accepted (p .0), ltb-false allowance _ (not-refused 8 _ (p .1 .0)), r .1)
+
+  -- refusals 1 to 7 have other numbers than 8
+  not-eight : Without 8 toSeven
+  not-eight =
+      without-first (other-number 1 8 (isWrongSize n) (λ e. omega arith))
+      (without-first (other-number 2 8 (not (eqb (length levels) (2 ^ n))) (λ e. omega arith))
+      (without-first (other-number 3 8 (leb (2 ^ (2 ^ n)) mask) (λ e. omega arith))
+      (without-first (other-number 4 8 (leb (2 ^ n) folding) (λ e. omega arith))
+      (without-first (other-number 5 8 (ltb 3 (ones folding)) (λ e. omega arith))
+      (without-first (other-number-at 6 8 (firstBelow (2 ^ n) (λ i. not (inRange (levelAt levels i)))) (λ e. omega arith))
+      (without-first (λ r e same. Option·none-ne-some r (sym (never-seven n mask folding) ∙ e)) without-any))))))
+
+  -- refusal 8 comes only where refusals 1 to 6 let the input pass and the walk needs more visits than are allowed
+  pub refused-eight : decodeAnswer n levels mask folding allowance ≡ refused (record { number = 8; values = [] })
+      → Accepted n levels mask folding × (allowance < walkVisits n mask (levelCost levels) folding)
+  unfolding decodeAnswer treeOrder
+  refused-eight e =
+      let r = refused-after toSeven eight (decoded n levels mask folding) (record { number = 8; values = [] }) not-eight e in
+      (accepted (r .0), ltb-true allowance _ (is-refused 8 _ (decoded n levels mask folding) _ (r .1)))
 
   -- a finished answer holds the least word
   pub done-least : (a : Decoded) → decodeAnswer n levels mask folding allowance ≡ done a → HoldsLeast n levels mask folding allowance a

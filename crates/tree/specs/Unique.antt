@@ -1,5 +1,8 @@
 -- The reading of this crate's answer determines the answer.
-use mathlib.Core.Path.{_≡_, ap}
+use Prim.Native.Nat.{ℕ}
+use mathlib.Core.Path.{_≡_, refl, ap}
+use native.Mathlib.Omega.{arith}
+use Rattle.rules.specs.Refusals.{done}
 use Rattle.rules.specs.Answers as rules
 use Rattle.refusal.specs.Unique.{refusal-injective}
 use Rattle.word.specs.Unique.{word-injective}
@@ -22,3 +25,9 @@ answer-injective (a.the-variants.Found f) (a.the-variants.Found g) same = ap a.t
 answer-injective (a.the-variants.Found f) (a.the-variants.Refused q) same = cc
 answer-injective (a.the-variants.Refused p) (a.the-variants.Found g) same = cc
 answer-injective (a.the-variants.Refused p) (a.the-variants.Refused q) same = ap a.the-variants.Refused (refusal-injective p q (cc))
+
+-- an answer read as a success is one, and holds what it was read as
+pub is-found : (r : a.Answer) (k : rules.Decoded) → answerOf r ≡ done k
+    → (found : d.Decoded) × (r ≡ a.the-variants.Found found) × (decodedOf found ≡ k)
+is-found (a.the-variants.Found found) k e = (found, refl, cc)
+is-found (a.the-variants.Refused r) k e = let z : _≡_ {A = ℕ} 0 1 = cc in absurd (omega arith)

@@ -2,7 +2,6 @@
 use Prim.Native.Nat.{ℕ, zero, suc, _≤_, min}
 use mathlib.Core.Path.{_≡_, refl, sym, ap, subst, _∙_}
 use mathlib.Core.Bool.{Bool, true, false, true≢false}
-use mathlib.Core.Option.{none, some}
 use native.Mathlib.Nat.{min-le-right}
 use native.Mathlib.Omega.{arith}
 use borrow.Author.Needs.{needs}
@@ -15,7 +14,11 @@ use mir.Val.{SFits, ofZ, toZ}
 use mir.ValLaws.{toZ-ofZ}
 use Rattle.rules.specs.Level.{limit}
 use Rattle.rules.specs.Sample.{signed, levelOf}
+use Rattle.rules.specs.Refusals.{done}
+use Rattle.rules.specs.Answers.{levelAnswer}
+use Rattle.light.specs.Values.{quantisedOf}
 use Rattle.light.specs.Steps.{wholeOf, Near}
+use Rattle.light.specs.declared.Quantised.the-variants.{NotFinite}
 use Rattle.light.proofs.Scaled.{scale, scaled-within, scaled-level}
 use Rattle.light.proofs.level.Statement.{statement}
 use Rattle.light.proofs.level.Tie as tie
@@ -33,11 +36,12 @@ negated q h = ap (λ (z : ℤ). pos 0 -ℤ z) (back false q h) ∙ +ℤ-idl (neg
 
 -- the level of s, from the clipped sample r that has the same level, the size of the level and the sign
 found : (t : Bool) (s r : Float) (p : ℕ) → Near 8 s r → lt r (fin false 0 (pos 0)) ≡ t → p ≡ wholeOf (mul binary32 r scale)
-    → some (signed t (min p limit)) ≡ levelOf s
+    → done (signed t (min p limit)) ≡ levelAnswer s
+unfolding levelAnswer
 found t s r p n l e = rw (← n .same, scaled-level r (n .held) (n .inside), l, e) refl
 
-not-finite : (s : Float) → false ≡ finite s → none ≡ levelOf s
-unfolding levelOf
+not-finite : (s : Float) → false ≡ finite s → quantisedOf NotFinite ≡ levelAnswer s
+unfolding levelAnswer levelOf
 not-finite nan e = refl
 not-finite (inf t) e = refl
 not-finite (fin t m x) e = absurd (true≢false (sym e))
