@@ -9,6 +9,7 @@ use native.Mathlib.Omega.{arith}
 use lib.Pow.{pow-pos}
 use lib.Count.{ones}
 use lib.Dec.{ltb}
+use Rattle.rules.specs.Below.{sumBelow}
 use Rattle.rules.specs.Word.{bit, codeword}
 use Rattle.rules.specs.Level.{nothing, best, wordDistance, leastWord}
 use Rattle.rules.specs.Folding.{group, groups}
@@ -26,10 +27,11 @@ use Rattle.laws.specs.SeatGroups.{seat-group}
 use Rattle.laws.specs.SeatWords.{seat, unseat, seat-bit, unseat-seat}
 use Rattle.laws.specs.SeatedRow.{blockOf, entryCandidates, seated-candidates}
 
--- the candidates of group k after the word d, from the group's row
-unfoldable pub seatedCandidates : ℕ → ℕ → ℕ → (ℕ → List ℕ) → ℕ → ℕ → List Candidate
-seatedCandidates n mask F rows k d =
-    entryCandidates n F (2 ^ ones F) k (blockOf (2 ^ ones F) k (codeword n (seat n F d))) (blockOf (2 ^ ones F) k (seat n F mask)) (rows k)
+-- the candidates of group k after the word d, from what the group's nearer bits cost and from its row
+unfoldable pub seatedCandidates : ℕ → ℕ → ℕ → (ℕ → ℕ) → (ℕ → List ℕ) → ℕ → ℕ → List Candidate
+seatedCandidates n mask F bases rows k d =
+    entryCandidates n F (2 ^ ones F) k (bases k) (blockOf (2 ^ ones F) k (codeword n (seat n F d)))
+    (blockOf (2 ^ ones F) k (seat n F mask)) (rows k)
 
 -- the candidates of a node are visited alike where the walks below agree at each
 visit-same : (K : Keeping) (a : ℕ) (down below : ℕ → ℕ → Option (State K) → Option (State K)) (p d : ℕ) (cs : List Candidate)
@@ -41,12 +43,14 @@ visit-same K a down below p d (c ∷ cs) h none = refl
 visit-same K a down below p d (c ∷ cs) h (some s) =
     rw (h c (List·Memᴰ·head refl) (p + c .branch) (some (count s)), visit-same K a down below p d cs (λ x m. h x (List·Memᴰ·tail m)))
 
-module _ (n mask : ℕ) (cost : ℕ → ℕ → ℕ) (F : ℕ) (rows : ℕ → List ℕ) (fits : F < 2 ^ n) (few : ones F ≤ 3)
-    (sorted : (k : ℕ) → k < groups n F → rows k ≡ rowOf (λ t b. cost (seatIndex n F (k * 2 ^ ones F + t)) b) (2 ^ ones F)) where
-  node-candidates : (k d : ℕ) → k < groups n F → Node n mask F (suc k) d → seatedCandidates n mask F rows k d ≡ candidates n mask cost F k d
+module _ (n mask : ℕ) (cost : ℕ → ℕ → ℕ) (near : ℕ → ℕ) (more : ℕ → ℕ → ℕ) (split : (i b : ℕ) → cost i b ≡ near i + 1024 * more i b)
+    (F : ℕ) (bases : ℕ → ℕ) (rows : ℕ → List ℕ) (fits : F < 2 ^ n) (few : ones F ≤ 3)
+    (summed : (k : ℕ) → k < groups n F → bases k ≡ sumBelow (2 ^ ones F) (λ t. near (seatIndex n F (k * 2 ^ ones F + t))))
+    (sorted : (k : ℕ) → k < groups n F → rows k ≡ rowOf (λ t b. more (seatIndex n F (k * 2 ^ ones F + t)) b) (2 ^ ones F)) where
+  node-candidates : (k d : ℕ) → k < groups n F → Node n mask F (suc k) d → seatedCandidates n mask F bases rows k d ≡ candidates n mask cost F k d
   unfolding seatedCandidates
   node-candidates k d hk node =
-      rw (sorted k hk) (rw back at (seated-candidates n mask cost F k (seat n F d) fits few hk clear (rw back node)))
+      rw (summed k hk, sorted k hk) (rw back at (seated-candidates n mask cost near more split F k (seat n F d) fits few hk clear (rw back node)))
     where
       back : unseat n F (seat n F d) ≡ d
       back = unseat-seat n F fits d (permitted-lt n mask d (node .allowed))
@@ -58,7 +62,7 @@ module _ (n mask : ℕ) (cost : ℕ → ℕ → ℕ) (F : ℕ) (rows : ℕ → L
 
   -- at every node the two walks agree
   pub seated-walk : (a k p d : ℕ) (o : Option (State keepBest)) → k ≤ groups n F → Node n mask F k d
-      → walkIn keepBest a (seatedCandidates n mask F rows) k p d o ≡ walkIn keepBest a (candidates n mask cost F) k p d o
+      → walkIn keepBest a (seatedCandidates n mask F bases rows) k p d o ≡ walkIn keepBest a (candidates n mask cost F) k p d o
   unfolding walkIn candidate
   seated-walk a zero p d none l node = refl
   seated-walk a zero p d (some s) l node = refl
@@ -71,7 +75,7 @@ module _ (n mask : ℕ) (cost : ℕ → ℕ → ℕ) (F : ℕ) (rows : ℕ → L
 
   -- within an allowance: nothing where the walk's total passes it, else the least word, its distance and the total
   pub seated-least-in : (allowance : ℕ)
-      → walkIn keepBest allowance (seatedCandidates n mask F rows) (groups n F) 0 0 (some (record { kept = nothing; visits = 0 }))
+      → walkIn keepBest allowance (seatedCandidates n mask F bases rows) (groups n F) 0 0 (some (record { kept = nothing; visits = 0 }))
       ≡ cond (ltb allowance (walkVisits n mask cost F)) none
       (some (record {
         kept = best (wordDistance n cost (leastWord n mask cost)) (leastWord n mask cost);
