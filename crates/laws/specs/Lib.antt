@@ -56,3 +56,4 @@ pub mod SeatedWalk
 pub mod FillingNumber
 pub mod Orders
 pub mod Records
+pub mod Excess

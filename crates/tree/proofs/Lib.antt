@@ -12,15 +12,7 @@ pub mod Rows
 pub mod Steps
 pub mod Trying
 pub mod Costs
-pub mod BothEnds
-pub mod Doubling
-pub mod Mirrors
-pub mod Merging
-pub mod LaneTurns
-pub mod LaneMirrors
-pub mod LaneRows
-pub mod FirstRows
-pub mod Places
+pub mod Giving
 pub mod Searching
 pub mod Emptiness
 pub mod Found

@@ -1,4 +1,4 @@
--- Where a group's row stands in the table: rows of 2 ^ size entries, packed in rows of 1024, none across an edge.
+-- Where a group's row stands in the table: rows of 2 ^ size entries, packed in rows of 256, none across an edge.
 use Prim.Native.Nat.{ℕ, _+_, _-_, _*_, _/_, _%_, _^_, _<_}
 use mathlib.Core.Path.{_≡_, ap, _∙_}
 use native.Mathlib.Nat.{mul-div-cancel, mul-mod-left, mod-lt, add-zero}
@@ -13,19 +13,19 @@ module _ {size k j : ℕ} (inside : Inside size k j) where
   pub entries-shifted : 1 * 2 ^ size % 2 ^ 64 ≡ 2 ^ size
   entries-shifted = power-shifted 64 size (omega (arith, inside .narrow))
 
-  pub row-in-table : k * 2 ^ size / 1024 < 2
+  pub row-in-table : k * 2 ^ size / 256 < 8
   row-in-table = omega (arith, inside .group)
 
   -- the row does not pass the edge
-  pub place-in-row : k * 2 ^ size % 1024 + j < 1024
-  place-in-row = omega (arith, start, parts, digits-lt {c = 2 ^ size} (mod-lt k (pow-pos (10 - size))) (inside .entry))
+  pub place-in-row : k * 2 ^ size % 256 + j < 256
+  place-in-row = omega (arith, start, parts, digits-lt {c = 2 ^ size} (mod-lt k (pow-pos (8 - size))) (inside .entry))
     where
-      parts : 1024 ≡ 2 ^ (10 - size) * 2 ^ size
+      parts : 256 ≡ 2 ^ (8 - size) * 2 ^ size
       parts =
-          let s : 10 ≡ (10 - size) + size = omega (arith, inside .narrow) in
-          ap (λ (x : ℕ). 2 ^ x) s ∙ pow-add 2 (10 - size) size
+          let s : 8 ≡ (8 - size) + size = omega (arith, inside .narrow) in
+          ap (λ (x : ℕ). 2 ^ x) s ∙ pow-add 2 (8 - size) size
 
-      start : k * 2 ^ size % 1024 ≡ (k % 2 ^ (10 - size)) * 2 ^ size
+      start : k * 2 ^ size % 256 ≡ (k % 2 ^ (8 - size)) * 2 ^ size
       start =
-          ap (λ (x : ℕ). k * 2 ^ size % x) parts ∙ mod-mul (k * 2 ^ size) (pow-pos (10 - size)) (pow-pos size)
+          ap (λ (x : ℕ). k * 2 ^ size % x) parts ∙ mod-mul (k * 2 ^ size) (pow-pos (8 - size)) (pow-pos size)
           ∙ rw (mul-div-cancel k (pow-pos size), mul-mod-left k (2 ^ size)) (add-zero _)

@@ -11,10 +11,10 @@ use Rattle.laws.specs.Each.{each-length, each-at}
 use Rattle.laws.specs.SeatedRow.{isOpen, entryCandidate, entryCandidates}
 use Rattle.tree.specs.Tables.{entryAt, rowAt}
 
-module _ (table : List (List ℕ)) (n F size k forced shut : ℕ) where
+module _ (table : List (List ℕ)) (n F size k near forced shut : ℕ) where
   -- the candidates from entry j on
   abbrev pub rest : ℕ → List Candidate
-  rest j = entryCandidates n F size k forced shut (drop j (rowAt table size k))
+  rest j = entryCandidates n F size k near forced shut (drop j (rowAt table size k))
 
   from : (j : ℕ) → j < 2 ^ size → drop j (rowAt table size k) ≡ entryAt table size k j ∷ drop (j + 1) (rowAt table size k)
   from j h =
@@ -23,7 +23,7 @@ module _ (table : List (List ℕ)) (n F size k forced shut : ℕ) where
       ∙ ap (λ (e : ℕ). e ∷ drop (suc j) (rowAt table size k)) (each-at (entryAt table size k) 0 (2 ^ size) j h))
 
   pub rest-open : (j : ℕ) → j < 2 ^ size → isOpen shut forced (entryAt table size k j) ≡ true
-      → rest j ≡ entryCandidate n F size k forced (entryAt table size k j) ∷ rest (j + 1)
+      → rest j ≡ entryCandidate n F size k near forced (entryAt table size k j) ∷ rest (j + 1)
   unfolding entryCandidates
   rest-open j h free = rw (from j h, free)
 

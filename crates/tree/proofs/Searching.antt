@@ -1,9 +1,9 @@
 -- From what the steps of a search make to what its walk asks and finds.
-use Prim.Native.Nat.{ℕ, _+_, _*_, _%_, _^_, _≤_, _<_}
+use Prim.Native.Nat.{ℕ, _+_, _/_, _*_, _%_, _^_, _≤_, _<_}
 use mathlib.Core.Path.{_≡_, sym, ap, _∙_}
 use mathlib.Core.Bool.{cond}
 use mathlib.Core.Option.{none, some}
-use mathlib.Core.List.{List, List·Memᴰ}
+use mathlib.Core.List.{List}
 use native.Mathlib.Nat.{zero-add, suc-mul, mul-le-mul-right}
 use native.Mathlib.Omega.{arith}
 use lib.Count.{ones}
@@ -12,24 +12,27 @@ use lib.IntN.{ℤ}
 use lib.ListN.{getD}
 use lib.Pow.{pow-mono}
 use lib.Seq.{ext-getD}
-use Rattle.rules.specs.Word.{codeword}
-use Rattle.rules.specs.Level.{levelAt, slotCost, levelCost, best, wordDistance, leastWord}
+use Rattle.rules.specs.Below.{sumBelow}
+use Rattle.rules.specs.Word.{bit, codeword}
+use Rattle.rules.specs.Level.{levelAt, levelCost, best, wordDistance, leastWord}
 use Rattle.rules.specs.Folding.{groups}
-use Rattle.rules.specs.Walk.{keepBest, walkVisits}
+use Rattle.rules.specs.Walk.{Candidate, keepBest, walkVisits}
 use Rattle.laws.specs.Each.{each-length, each-at}
+use Rattle.laws.specs.Sums.{sum-cong, sum-add, sum-mul, sum-le, sum-const}
 use Rattle.laws.specs.GreatestDistance.{slot-greatest}
+use Rattle.laws.specs.Excess.{excess, nearest, cost-split}
 use Rattle.laws.specs.Seats.{seatIndex, seat-below}
 use Rattle.laws.specs.SeatWords.{seat}
-use Rattle.laws.specs.SeatedRow.{blockOf, entryCandidates}
+use Rattle.laws.specs.SeatedRow.{blockOf, branchOf, entryCandidates}
 use Rattle.laws.specs.SeatedWalk.{seatedCandidates, seated-least-in}
 use Rattle.laws.specs.SortedLists.{mem-getD}
-use Rattle.laws.specs.SortedRows.{rowOf, row-length, row-at, row-bound, row-cong, entry-parts}
+use Rattle.laws.specs.SortedRows.{rowOf, row-length, row-at, row-cong, entry-parts}
 use Rattle.laws.specs.Allowance.{walkIn, walk-cong}
 use Rattle.tree.specs.Seating.{Seated}
 use Rattle.tree.specs.Grouping.{Grouped, Covered, Shut, Changes}
 use Rattle.tree.specs.Tables.{entryAt, rowAt}
-use Rattle.tree.specs.Costs.{seatCost, Levelled, RowsRight}
-use Rattle.tree.specs.Nodes.{Tabled, rowCandidates, most}
+use Rattle.tree.specs.Slots.{Levelled, Ranked, seatLevel}
+use Rattle.tree.specs.Nodes.{Tabled, rowCandidates, most, coveredIn, shutIn, nearIn}
 use Rattle.tree.specs.States.{empty}
 use Rattle.tree.specs.Search.{Searchable}
 use Rattle.tree.specs.declared.group.Tree.{Tree}
@@ -49,73 +52,121 @@ module _ {levels : List ℤ} {g : Tree} (grouped : Grouped g) (given : Searchabl
             λ t h. rw (zero-add t, index-at seated t (rw (all-indices grouped) at h)) (given .ranged _ (seat-below (g .n) (g .folding) (given .fits) t (rw (all-indices grouped) at h)));
       }
 
-  module _ (table : List (List ℕ)) (right : RowsRight levels index (g .groups) (g .size) table) where
+  module _ (table tables : List (List ℕ)) (ranked : Ranked levels index (g .groups) (g .size) table (nearIn tables)) where
     -- a seat of group k is a seat
-    inside : (k t : ℕ) → k < g .groups → t < g .size → k * g .size + t < 2 ^ (g .n)
-    inside k t hk ht = omega (arith, all-indices grouped, mul-le-mul-right (g .size) hk, suc-mul k (g .size))
+    inside : (k t : ℕ) → k < g .groups → t < g .size → k * g .size + t < g .groups * g .size
+    inside k t hk ht = omega (arith, mul-le-mul-right (g .size) hk, suc-mul k (g .size))
 
-    -- an entry is one of its row's
-    entry-in : (k j : ℕ) → k < g .groups → j < 2 ^ (g .size) → List·Memᴰ (entryAt table (g .size) k j) (rowOf (seatCost levels index (k * g .size)) (g .size))
-    unfolding RowsRight
-    entry-in k j hk hj =
-        rw (right k j hk hj)
-        (mem-getD (rowOf (seatCost levels index (k * g .size)) (g .size)) j 0 (rw (row-length (seatCost levels index (k * g .size)) (g .size)) hj))
+    -- the level at a seat of group k
+    abbrev own : ℕ → ℕ → ℤ
+    own k t = levelAt levels (seatIndex (g .n) (g .folding) (k * g .size + t))
 
-    cheap : (k : ℕ) → k < g .groups → (t b : ℕ) → t < g .size → seatCost levels index (k * g .size) t b ≤ most
-    cheap k hk t b ht =
-        let h = inside k t hk ht in
-        slot-greatest _ b (rw (index-at seated (k * g .size + t) h) (given .ranged _ (seat-below (g .n) (g .folding) (given .fits) _ h)))
+    level-is : (k t : ℕ) → k < g .groups → t < g .size → seatLevel levels index (k * g .size + t) ≡ own k t
+    level-is k t hk ht = ap (levelAt levels) (index-at seated (k * g .size + t) (rw (all-indices grouped) at (inside k t hk ht)))
+
+    -- what a bit costs more in slot t of group k
+    abbrev more : ℕ → ℕ → ℕ → ℕ
+    more k t b = excess (seatLevel levels index (k * g .size + t)) b
+
+    more-is : (k t b : ℕ) → k < g .groups → t < g .size → more k t b ≡ excess (own k t) b
+    more-is k t b hk ht = ap (λ (z : ℤ). excess z b) (level-is k t hk ht)
+
+    -- what the nearer bits of group k cost
+    near-is : (k : ℕ) → k < g .groups → getD (nearIn tables) k 0 ≡ sumBelow (g .size) (λ t. nearest (own k t))
+    near-is k hk = ranked .sums k hk ∙ sum-cong (g .size) (λ t ht. ap nearest (level-is k t hk ht))
+
+    abbrev row : ℕ → List ℕ
+    row k = rowOf (more k) (g .size)
+
+    -- an entry is one of its row's, and so that of a pattern
+    entry-of : (k j : ℕ) → k < g .groups → j < 2 ^ (g .size)
+        → (u : ℕ) × (u < 2 ^ (g .size)) × (entryAt table (g .size) k j / 256 ≡ sumBelow (g .size) (λ t. more k t (bit u t)))
+        × (entryAt table (g .size) k j % 256 ≡ u)
+    entry-of k j hk hj =
+        let r = row-at (more k) (g .size) (entryAt table (g .size) k j)
+        (rw (ranked .rows k j hk hj) (mem-getD (row k) j 0 (rw (row-length (more k) (g .size)) hj))) in
+        let parts = entry-parts (more k) (g .size) (r .0) (size-small grouped) (r .1) in
+        (r .0, r .1, ap (λ (e : ℕ). e / 256) (r .2) ∙ parts .0, ap (λ (e : ℕ). e % 256) (r .2) ∙ parts .1)
+
+    -- its branch is what the slots cost at that pattern, so it is bounded
+    bounded : (k j : ℕ) → k < g .groups → j < 2 ^ (g .size)
+        → branchOf (getD (nearIn tables) k 0) (entryAt table (g .size) k j) ≤ g .size * most
+    bounded k j hk hj =
+        let r = entry-of k j hk hj in
+        let cost : ℕ → ℕ = λ t. nearest (own k t) + 1024 * more k t (bit (r .0) t) in
+        let all : sumBelow (g .size) cost ≡ branchOf (getD (nearIn tables) k 0) (entryAt table (g .size) k j) =
+        sum-add (g .size) (λ t. nearest (own k t)) (λ t. 1024 * more k t (bit (r .0) t))
+        ∙ rw (near-is k hk, r .2, sum-mul (g .size) 1024 (λ t. more k t (bit (r .0) t)))
+        in
+        omega (arith, all, sum-const (g .size) most, sum-le (g .size) {f = cost} {g = λ t. most} (cheap k hk (r .0)))
+      where
+        cheap : (k : ℕ) → k < g .groups → (u t : ℕ) → t < g .size → nearest (own k t) + 1024 * more k t (bit u t) ≤ most
+        cheap k hk u t ht =
+            rw (more-is k t (bit u t) hk ht, ← cost-split (own k t) (bit u t))
+            (slot-greatest (own k t) (bit u t)
+            (given .ranged _ (seat-below (g .n) (g .folding) (given .fits) _ (rw (all-indices grouped) at (inside k t hk ht)))))
 
     -- what the walk asks of the tables
-    pub tables-right : (change covered shut : List ℕ) (mask : ℕ) → Changes change g → Covered covered g → Shut shut g mask → Tabled table change covered shut g
-    tables-right change covered shut mask changes copied frozen =
+    pub tables-right : (change : List ℕ) (mask : ℕ) → Changes change g → Covered (coveredIn tables) g → Shut (shutIn tables) g mask
+        → Tabled table change tables g
+    tables-right change mask changes copied frozen =
         record {
           grouped = grouped;
-          near = λ k j hk hj. omega (arith, row-bound (seatCost levels index (k * g .size)) (g .size) most (size-small grouped) (cheap k hk) _ (entry-in k j hk hj));
-          narrow = narrow;
+          bounded = bounded;
+          narrow = λ k j hk hj. let r = entry-of k j hk hj in rw (r .3) (r .1);
           changes = changes;
           copied = copied;
           frozen = (mask, frozen);
         }
-      where
-        narrow : (k j : ℕ) → k < g .groups → j < 2 ^ (g .size) → entryAt table (g .size) k j % 256 < 2 ^ (g .size)
-        narrow k j hk hj =
-            let r = row-at (seatCost levels index (k * g .size)) (g .size) _ (entry-in k j hk hj) in
-            rw (r .2, entry-parts (seatCost levels index (k * g .size)) (g .size) (r .0) (size-small grouped) (r .1) .1) (r .1)
 
-    -- the table's rows are the sorted rows of the levels' costs
+    -- in terms of the folding's own size
+    resized : (P : ℕ → Type 0) → P (g .size) → P (2 ^ ones (g .folding))
+    resized P x = rw (← grouped .sized) x
+
+    -- the table's rows are the sorted rows of what the bits cost more
     rows-sorted : (k : ℕ) → k < groups (g .n) (g .folding)
-        → rowAt table (g .size) k ≡ rowOf (λ t b. levelCost levels (seatIndex (g .n) (g .folding) (k * 2 ^ ones (g .folding) + t)) b) (2 ^ ones (g .folding))
-    unfolding RowsRight
+        → rowAt table (g .size) k
+        ≡ rowOf (λ t b. excess (levelAt levels (seatIndex (g .n) (g .folding) (k * 2 ^ ones (g .folding) + t))) b) (2 ^ ones (g .folding))
     rows-sorted k hk =
-        ext-getD 0 (rowAt table (g .size) k) (rowOf (seatCost levels index (k * g .size)) (g .size))
-        (each-length (entryAt table (g .size) k) (2 ^ (g .size)) ∙ sym (row-length (seatCost levels index (k * g .size)) (g .size)))
+        resized (λ (z : ℕ). rowAt table (g .size) k ≡ rowOf (λ t b. excess (levelAt levels (seatIndex (g .n) (g .folding) (k * z + t))) b) z)
+        (ext-getD 0 (rowAt table (g .size) k) (row k)
+        (each-length (entryAt table (g .size) k) (2 ^ (g .size)) ∙ sym (row-length (more k) (g .size)))
         (λ j hj. at j (rw (each-length (entryAt table (g .size) k) (2 ^ (g .size))) at hj))
-        ∙ row-cong (seatCost levels index (k * g .size)) _ (g .size)
-        (λ t b ht.
-        ap (λ (i : ℕ). slotCost (levelAt levels i) b)
-        (index-at seated (k * g .size + t) (inside k t group ht) ∙ ap (λ (z : ℕ). seatIndex (g .n) (g .folding) (k * z + t)) (grouped .sized)))
-        ∙ ap (rowOf _) (grouped .sized)
+        ∙ row-cong (more k) (λ t b. excess (own k t) b) (g .size) (λ t b ht. more-is k t b group ht))
       where
         group : k < g .groups
         group = rw (grouped .all) hk
 
-        at : (j : ℕ) → j < 2 ^ (g .size) → getD (rowAt table (g .size) k) j 0 ≡ getD (rowOf (seatCost levels index (k * g .size)) (g .size)) j 0
-        at j hj = each-at (entryAt table (g .size) k) 0 (2 ^ (g .size)) j hj ∙ right k j group hj
+        at : (j : ℕ) → j < 2 ^ (g .size) → getD (rowAt table (g .size) k) j 0 ≡ getD (row k) j 0
+        at j hj = each-at (entryAt table (g .size) k) 0 (2 ^ (g .size)) j hj ∙ ranked .rows k j group hj
 
-    module _ (mask allowance : ℕ) (shut : List ℕ) (frozen : Shut shut g mask) where
+    near-sums : (k : ℕ) → k < groups (g .n) (g .folding)
+        → getD (nearIn tables) k 0
+        ≡ sumBelow (2 ^ ones (g .folding)) (λ t. nearest (levelAt levels (seatIndex (g .n) (g .folding) (k * 2 ^ ones (g .folding) + t))))
+    near-sums k hk =
+        resized (λ (z : ℕ). getD (nearIn tables) k 0 ≡ sumBelow z (λ t. nearest (levelAt levels (seatIndex (g .n) (g .folding) (k * z + t)))))
+        (near-is k (rw (grouped .all) hk))
+
+    module _ (mask allowance : ℕ) (frozen : Shut (shutIn tables) g mask) where
+      abbrev seated-rows : ℕ → ℕ → List Candidate
+      seated-rows = seatedCandidates (g .n) mask (g .folding) (λ k. getD (nearIn tables) k 0) (rowAt table (g .size))
+
       -- at each group the candidates are those of the mask
-      same-candidates : (k d : ℕ) → k < g .groups → rowCandidates table shut g k d ≡ seatedCandidates (g .n) mask (g .folding) (rowAt table (g .size)) k d
+      same-candidates : (k d : ℕ) → k < g .groups → rowCandidates table tables g k d ≡ seated-rows k d
       unfolding rowCandidates seatedCandidates
       same-candidates k d hk =
           let n = g .n in
           let folding = g .folding in
-          let block = frozen-block grouped shut mask frozen k hk in
-          ap (λ (b : ℕ). entryCandidates n folding (g .size) k (blockOf (g .size) k (codeword n (seat n folding d))) b (rowAt table (g .size) k)) block
-          ∙ ap (λ (z : ℕ). entryCandidates n folding z k (blockOf z k (codeword n (seat n folding d))) (blockOf z k (seat n folding mask)) (rowAt table (g .size) k)) (grouped .sized)
+          let near = getD (nearIn tables) k 0 in
+          let block = frozen-block grouped (shutIn tables) mask frozen k hk in
+          ap (λ (b : ℕ). entryCandidates n folding (g .size) k near (blockOf (g .size) k (codeword n (seat n folding d))) b (rowAt table (g .size) k)) block
+          ∙ ap
+          (λ (z : ℕ).
+          entryCandidates n folding z k near (blockOf z k (codeword n (seat n folding d))) (blockOf z k (seat n folding mask)) (rowAt table (g .size) k))
+          (grouped .sized)
 
       -- what the walk finds: nothing where its total passes the allowance, else the least word, its distance and the total
-      pub walked : walkIn keepBest allowance (rowCandidates table shut g) (g .groups) 0 0 (some empty)
+      pub walked : walkIn keepBest allowance (rowCandidates table tables g) (g .groups) 0 0 (some empty)
           ≡ cond (ltb allowance (walkVisits (g .n) mask (levelCost levels) (g .folding))) none
           (some (record {
             kept = best (wordDistance (g .n) (levelCost levels) (leastWord (g .n) mask (levelCost levels))) (leastWord (g .n) mask (levelCost levels));
@@ -123,5 +174,7 @@ module _ {levels : List ℤ} {g : Tree} (grouped : Grouped g) (given : Searchabl
           }))
       walked =
           walk-cong keepBest allowance _ _ (g .groups) same-candidates 0 0 (some empty)
-          ∙ ap (λ (m : ℕ). walkIn keepBest allowance (seatedCandidates (g .n) mask (g .folding) (rowAt table (g .size))) m 0 0 (some empty)) (grouped .all)
-          ∙ seated-least-in (g .n) mask (levelCost levels) (g .folding) (rowAt table (g .size)) (given .fits) (given .few) rows-sorted allowance
+          ∙ ap (λ (m : ℕ). walkIn keepBest allowance seated-rows m 0 0 (some empty)) (grouped .all)
+          ∙ seated-least-in (g .n) mask (levelCost levels) (λ i. nearest (levelAt levels i)) (λ i b. excess (levelAt levels i) b)
+          (λ i b. cost-split (levelAt levels i) b) (g .folding) (λ k. getD (nearIn tables) k 0) (rowAt table (g .size)) (given .fits) (given .few)
+          near-sums rows-sorted allowance

@@ -8,18 +8,18 @@ use lib.Bits.{bitAnd, bitXor}
 use lib.Count.{ones}
 use lib.Dec.{eqb}
 use lib.ListN.{getD}
-use lib.Pow.{pow-mono}
+use lib.Pow.{pow-pos, pow-mono}
 use Rattle.rules.specs.Word.{codeword}
 use Rattle.rules.specs.Folding as rules
 use Rattle.laws.specs.Matrix.{codeword-lt}
 use Rattle.laws.specs.SeatWords.{seat}
-use Rattle.laws.specs.SeatedRow.{blockOf, fillingOf, isOpen, entryCandidate}
+use Rattle.laws.specs.SeatedRow.{blockOf, fillingOf, isOpen, branchOf, entryCandidate}
 use Rattle.laws.specs.Decided.{decided, changeOf, Filled, filled}
 use Rattle.laws.specs.Copied.{change-copied}
 use Rattle.tree.specs.Tables.{Inside, entryAt}
 use Rattle.tree.specs.Costs.{GroupSize}
 use Rattle.tree.specs.Grouping.{Grouped}
-use Rattle.tree.specs.Nodes.{Given, rowCandidates, most}
+use Rattle.tree.specs.Nodes.{Given, rowCandidates, most, coveredIn, shutIn, nearIn}
 use Rattle.tree.specs.declared.group.Tree.{Tree}
 use Rattle.tree.specs.declared.state.Walked.{Walked}
 use Rattle.tree.proofs.Rows.{rest}
@@ -30,10 +30,10 @@ use Rattle.tree.proofs.Tabling.{shape, size-small, all-indices, few-gro
 in-table : {size : ℕ} (k : ℕ) → GroupSize size → suc k * size ≤ 64 → k * 2 ^ size < 2048
 in-table k = by-size (λ (size : ℕ). suc k * size ≤ 64 → k * 2 ^ size < 2048) (λ h. omega arith) (λ h. omega arith) (λ h. omega arith) (λ h. omega arith)
 
-module _ {rows : List (List ℕ)} {change covered shut : List ℕ} {g : Tree} {k partial w : ℕ} {s : Walked}
-    (given : Given rows change covered shut g (suc k) partial w s) where
+module _ {rows : List (List ℕ)} {change : List ℕ} {tables : List (List ℕ)} {g : Tree} {k partial w : ℕ} {s : Walked}
+    (given : Given rows change tables g (suc k) partial w s) where
   grouped : Grouped g
-  grouped = given .tables .grouped
+  grouped = given .tabled .grouped
 
   sized : g .size ≡ 2 ^ ones (g .folding)
   sized = grouped .sized
@@ -66,11 +66,20 @@ module _ {rows : List (List ℕ)} {change covered shut : List ℕ} {g : Tree} {k
   abbrev pub forced : ℕ
   forced = blockOf (g .size) k (codeword (g .n) (seat (g .n) (g .folding) (decided (g .n) (g .folding) (suc k) w)))
 
+  abbrev pub nearer : ℕ
+  nearer = getD (nearIn tables) k 0
+
   abbrev pub closed : ℕ
-  closed = blockOf (g .size) k (seat (g .n) (g .folding) (getD shut k 0))
+  closed = blockOf (g .size) k (seat (g .n) (g .folding) (getD (shutIn tables) k 0))
+
+  -- the cost of the nearer bits leaves room
+  pub near-fits : partial + nearer < 2 ^ 32
+  near-fits =
+      let some : 0 < 2 ^ (g .size) = pow-pos (g .size) in
+      omega (arith, given .tabled .bounded k 0 (given .begun .within) some, given .begun .room, suc-mul k (g .size * most))
 
   -- the node's candidates are those that the row holds
-  pub here : rowCandidates rows shut g k (decided (g .n) (g .folding) (suc k) w) ≡ rest rows (g .n) (g .folding) (g .size) k forced closed 0
+  pub here : rowCandidates rows tables g k (decided (g .n) (g .folding) (suc k) w) ≡ rest rows (g .n) (g .folding) (g .size) k nearer forced closed 0
   unfolding rowCandidates
   here = refl
 
@@ -79,56 +88,60 @@ module _ {rows : List (List ℕ)} {change covered shut : List ℕ} {g : Tree} {k
     e = entryAt rows (g .size) k j
 
     pattern-lt : e % 256 < 2 ^ (g .size)
-    pattern-lt = given .tables .narrow k j (given .begun .within) h
+    pattern-lt = given .tabled .narrow k j (given .begun .within) h
 
     -- what the code adds to the word is what the pattern changes in it
-    change-is : getD covered k 0 * getD change (e % 256) 0 ≡ changeOf (g .n) (g .folding) k (e % 256)
+    change-is : getD (coveredIn tables) k 0 * getD change (e % 256) 0 ≡ changeOf (g .n) (g .folding) k (e % 256)
     change-is =
-        ap₂ (λ (a b : ℕ). a * b) (given .tables .copied k (given .begun .within)) (given .tables .changes (e % 256) pattern-lt)
+        ap₂ (λ (a b : ℕ). a * b) (given .tabled .copied k (given .begun .within)) (given .tabled .changes (e % 256) pattern-lt)
         ∙ mul-comm _ _ ∙ change-copied (g .n) (g .folding) (grouped .fits) k (e % 256) group-is (rw (← sized) pattern-lt)
 
-    pub change-fits : getD covered k 0 * getD change (e % 256) 0 < 2 ^ 64
+    pub change-fits : getD (coveredIn tables) k 0 * getD change (e % 256) 0 < 2 ^ 64
     change-fits = rw change-is (lt-of-lt-of-le (codeword-lt (g .n) _) (pow-mono (pow-mono {j = 6} (grouped .small))))
 
     -- the next word
     abbrev pub next : ℕ
-    next = bitXor w (getD covered k 0 * getD change (e % 256) 0)
+    next = bitXor w (getD (coveredIn tables) k 0 * getD change (e % 256) 0)
 
-    down : Filled (g .n) (given .tables .frozen .0) (g .folding) k w e next
+    down : Filled (g .n) (given .tabled .frozen .0) (g .folding) k w e next
     down =
         rw change-is
-        (filled (g .n) (given .tables .frozen .0) (g .folding) (grouped .fits) (grouped .few) k w e group-is (given .begun .small)
+        (filled (g .n) (given .tabled .frozen .0) (g .folding) (grouped .fits) (grouped .few) k w e group-is (given .begun .small)
         (given .begun .blank) (rw (← sized) pattern-lt))
 
     -- it has no frozen bit of the group exactly where the entry's filling has none
-    pub open-is : eqb (bitAnd next (getD shut k 0)) 0 ≡ isOpen closed forced e
+    pub open-is : eqb (bitAnd next (getD (shutIn tables) k 0)) 0 ≡ isOpen closed forced e
     open-is =
-        let own = rw (← sized) at (given .tables .frozen .1 k (given .begun .within)) in
-        let block = frozen-block grouped shut (given .tables .frozen .0) (given .tables .frozen .1) k (given .begun .within) in
+        let own = rw (← sized) at (given .tabled .frozen .1 k (given .begun .within)) in
+        let block = frozen-block grouped (shutIn tables) (given .tabled .frozen .0) (given .tabled .frozen .1) k (given .begun .within) in
         ap (λ (x : ℕ). eqb (bitAnd next x) 0) own ∙ rw (← sized) at (down .free) ∙ ap (λ (b : ℕ). eqb (bitAnd (fillingOf forced e) b) 0) (sym block)
 
-    -- the branch distance leaves room for the groups below
-    pub total-fits : partial + e / 256 < 2 ^ 32
-    total-fits = omega (arith, given .tables .near k j (given .begun .within) h, given .begun .room, suc-mul k (g .size * most))
+    -- the partial distance with the entry's branch
+    abbrev pub reached : ℕ
+    reached = partial + branchOf nearer e
+
+    -- it leaves room for the groups below
+    pub reached-fits : reached < 2 ^ 32
+    reached-fits = omega (arith, given .tabled .bounded k j (given .begun .within) h, given .begun .room, suc-mul k (g .size * most))
 
     -- what the node one level down is given
-    pub given-down : (total : ℕ) (after : Walked) → total ≡ partial + e / 256 → after .visits ≤ g .allowance
-        → Given rows change covered shut g k total next after
+    pub given-down : (total : ℕ) (after : Walked) → total ≡ reached → after .visits ≤ g .allowance
+        → Given rows change tables g k total next after
     given-down total after isTotal running =
         record {
-          tables = given .tables;
+          tabled = given .tabled;
           begun =
               record {
                 within = omega (arith, given .begun .within);
                 small = down .small;
                 blank = down .left;
-                room = omega (arith, given .tables .near k j (given .begun .within) h, given .begun .room, suc-mul k (g .size * most));
+                room = omega (arith, given .tabled .bounded k j (given .begun .within) h, given .begun .room, suc-mul k (g .size * most));
               };
           running = running;
         }
 
     -- it decides this node's word with the candidate's filling
     pub fills : decided (g .n) (g .folding) k next
-        ≡ decided (g .n) (g .folding) (suc k) w + entryCandidate (g .n) (g .folding) (g .size) k forced e .filling
+        ≡ decided (g .n) (g .folding) (suc k) w + entryCandidate (g .n) (g .folding) (g .size) k nearer forced e .filling
     unfolding entryCandidate
     fills = rw (← sized) at (down .adds)

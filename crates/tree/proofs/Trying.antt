@@ -18,11 +18,11 @@ use Rattle.laws.specs.Decided.{decided, decided-all}
 use Rattle.laws.specs.Bits.{power-shifted}
 use Rattle.tree.specs.Tables.{entryAt}
 use Rattle.tree.specs.States.{keptOf, runningOf, stateOf}
-use Rattle.tree.specs.Nodes.{Given, rowCandidates}
+use Rattle.tree.specs.Nodes.{Given, rowCandidates, coveredIn, shutIn}
 use Rattle.tree.specs.declared.group.Tree.{Tree}
 use Rattle.tree.specs.declared.state.Walked.{Walked}
 use Rattle.tree.proofs.Rows.{rest, rest-open, rest-shut, rest-end}
-use Rattle.tree.proofs.Steps.{narrow, forced, closed, here, next, open-is, fills}
+use Rattle.tree.proofs.Steps.{narrow, nearer, forced, closed, here, reached, next, open-is, fills}
 
 -- a state within the allowance, and one beyond it
 pub running-state : (allowance : ℕ) (s : Walked) → s .visits ≤ allowance → stateOf allowance s ≡ some (runningOf s)
@@ -43,44 +43,45 @@ abbrev pub wordAt : Tree → ℕ → ℕ → ℕ
 wordAt g left w = decided (g .n) (g .folding) left w
 
 -- the rules' walk of the levels that are left
-abbrev pub under : List (List ℕ) → List ℕ → Tree → ℕ → ℕ → ℕ → Option (State keepBest) → Option (State keepBest)
-under rows shut g = walkIn keepBest (g .allowance) (rowCandidates rows shut g)
+abbrev pub under : List (List ℕ) → List (List ℕ) → Tree → ℕ → ℕ → ℕ → Option (State keepBest) → Option (State keepBest)
+under rows tables g = walkIn keepBest (g .allowance) (rowCandidates rows tables g)
 
 -- what the rules do with the whole node
-abbrev pub wholly : List (List ℕ) → List ℕ → Tree → ℕ → ℕ → ℕ → Option (State keepBest) → Option (State keepBest)
-wholly rows shut g left partial w = under rows shut g left partial (wordAt g left w)
+abbrev pub wholly : List (List ℕ) → List (List ℕ) → Tree → ℕ → ℕ → ℕ → Option (State keepBest) → Option (State keepBest)
+wholly rows tables g left partial w = under rows tables g left partial (wordAt g left w)
 
 -- what they do with candidates of group k, at a state
-abbrev pub trial : List (List ℕ) → List ℕ → Tree → ℕ → ℕ → ℕ → List Candidate → Option (State keepBest) → Option (State keepBest)
-trial rows shut g k partial w = visitIn keepBest (g .allowance) (under rows shut g k) partial (wordAt g (suc k) w)
+abbrev pub trial : List (List ℕ) → List (List ℕ) → Tree → ℕ → ℕ → ℕ → List Candidate → Option (State keepBest) → Option (State keepBest)
+trial rows tables g k partial w = visitIn keepBest (g .allowance) (under rows tables g k) partial (wordAt g (suc k) w)
 
 -- the loop's invariant
-pub record Trying (rows : List (List ℕ)) (change covered shut : List ℕ) (g : Tree) (left partial w k size entries : ℕ)
+pub record Trying (rows : List (List ℕ)) (change : List ℕ) (tables : List (List ℕ)) (g : Tree) (left partial w k size entries base : ℕ)
     (first s : Walked) (j : ℕ) : Type 0 where
-  pub given : Given rows change covered shut g (suc k) partial w first
+  pub given : Given rows change tables g (suc k) partial w first
   pub levels : left ≡ suc k
   pub sized : size ≡ g .size
   pub counted : entries ≡ 2 ^ (g .size)
+  pub based : base ≡ partial + nearer given
   pub tried : j ≤ 2 ^ (g .size)
   pub running : s .visits ≤ (g .allowance)
-  pub same : trial rows shut g k partial w (rest rows (g .n) (g .folding) (g .size) k (forced given) (closed given) j) (stateOf (g .allowance) s)
-      ≡ wholly rows shut g left partial w (stateOf (g .allowance) first)
+  pub same : trial rows tables g k partial w (rest rows (g .n) (g .folding) (g .size) k (nearer given) (forced given) (closed given) j) (stateOf (g .allowance) s)
+      ≡ wholly rows tables g left partial w (stateOf (g .allowance) first)
 
-module _ {rows : List (List ℕ)} {change covered shut : List ℕ} {g : Tree} {left partial w k size entries : ℕ} {first s : Walked} {j : ℕ}
-    (t : Trying rows change covered shut g left partial w k size entries first s j) where
+module _ {rows : List (List ℕ)} {change : List ℕ} {tables : List (List ℕ)} {g : Tree} {left partial w k size entries base : ℕ} {first s : Walked} {j : ℕ}
+    (t : Trying rows change tables g left partial w k size entries base first s j) where
   -- the node's whole result
   abbrev whole : Option (State keepBest)
-  whole = wholly rows shut g left partial w (stateOf (g .allowance) first)
+  whole = wholly rows tables g left partial w (stateOf (g .allowance) first)
 
   -- the candidates of the row from an entry on
   abbrev remaining : ℕ → List Candidate
-  remaining = rest rows (g .n) (g .folding) (g .size) k (forced (t .given)) (closed (t .given))
+  remaining = rest rows (g .n) (g .folding) (g .size) k (nearer (t .given)) (forced (t .given)) (closed (t .given))
 
   -- the row is at its end
   pub trying-end : entries ≤ j → stateOf (g .allowance) s ≡ whole
   trying-end h =
-      sym (visit-end keepBest (g .allowance) (under rows shut g k) partial (wordAt g (suc k) w) (stateOf (g .allowance) s))
-      ∙ ap (λ (cs : List Candidate). trial rows shut g k partial w cs (stateOf (g .allowance) s)) (sym (rest-end rows _ _ _ k _ _ j (rw (← t .counted) h)))
+      sym (visit-end keepBest (g .allowance) (under rows tables g k) partial (wordAt g (suc k) w) (stateOf (g .allowance) s))
+      ∙ ap (λ (cs : List Candidate). trial rows tables g k partial w cs (stateOf (g .allowance) s)) (sym (rest-end rows _ _ _ k _ _ _ j (rw (← t .counted) h)))
       ∙ t .same
 
   module _ (h : j < entries) where
@@ -89,54 +90,55 @@ module _ {rows : List (List ℕ)} {change covered shut : List ℕ} {g : Tree} {l
 
     -- the candidate of entry j
     abbrev here-is : Candidate
-    here-is = entryCandidate (g .n) (g .folding) (g .size) k (forced (t .given)) (entryAt rows (g .size) k j)
+    here-is = entryCandidate (g .n) (g .folding) (g .size) k (nearer (t .given)) (forced (t .given)) (entryAt rows (g .size) k j)
 
     module _ (e : ℕ) (entry-is : e ≡ entryAt rows (g .size) k j) where
-      pub total-is : partial + e / 256 ≡ partial + entryAt rows (g .size) k j / 256
-      total-is = ap (λ (a : ℕ). partial + a / 256) entry-is
+      pub total-is : base + 1024 * (e / 256) ≡ reached (t .given) j below
+      total-is = rw entry-is (omega (arith, t .based))
 
-      pub product-is : getD covered k 0 * getD change (e % 256) 0 ≡ getD covered k 0 * getD change (entryAt rows (g .size) k j % 256) 0
-      product-is = ap (λ (a : ℕ). getD covered k 0 * getD change (a % 256) 0) entry-is
+      pub product-is : getD (coveredIn tables) k 0 * getD change (e % 256) 0 ≡ getD (coveredIn tables) k 0 * getD change (entryAt rows (g .size) k j % 256) 0
+      product-is = ap (λ (a : ℕ). getD (coveredIn tables) k 0 * getD change (a % 256) 0) entry-is
 
-      module _ (after : ℕ) (changed : after ≡ bitXor w (getD covered k 0 * getD change (e % 256) 0)) where
+      module _ (after : ℕ) (changed : after ≡ bitXor w (getD (coveredIn tables) k 0 * getD change (e % 256) 0)) where
         -- the next word as the code made it
         pub next-is : after ≡ next (t .given) j below
         next-is = changed ∙ ap (bitXor w) product-is
 
-        module _ (r : Bool) (test : r ≡ eqb (bitAnd after (getD shut k 0)) 0) where
+        module _ (r : Bool) (test : r ≡ eqb (bitAnd after (getD (shutIn tables) k 0)) 0) where
           open-right : isOpen (closed (t .given)) (forced (t .given)) (entryAt rows (g .size) k j) ≡ r
-          open-right = sym (test ∙ ap (λ (a : ℕ). eqb (bitAnd a (getD shut k 0)) 0) next-is ∙ open-is (t .given) j below)
+          open-right = sym (test ∙ ap (λ (a : ℕ). eqb (bitAnd a (getD (shutIn tables) k 0)) 0) next-is ∙ open-is (t .given) j below)
 
           -- a word with a frozen bit: on to the next entry
-          pub trying-shut : r ≡ false → Trying rows change covered shut g left partial w k size entries first s (j + 1)
+          pub trying-shut : r ≡ false → Trying rows change tables g left partial w k size entries base first s (j + 1)
           trying-shut q =
               record {
                 given = t .given;
                 levels = t .levels;
                 sized = t .sized;
                 counted = t .counted;
+                based = t .based;
                 tried = omega (arith, below);
                 running = t .running;
                 same =
-                    ap (λ (cs : List Candidate). trial rows shut g k partial w cs (stateOf (g .allowance) s)) (sym (rest-shut rows _ _ _ k _ _ j below (open-right ∙ q)))
+                    ap (λ (cs : List Candidate). trial rows tables g k partial w cs (stateOf (g .allowance) s)) (sym (rest-shut rows _ _ _ k _ _ _ j below (open-right ∙ q)))
                     ∙ t .same;
               }
 
           module _ (q : r ≡ true) where
             -- the candidate and those after it, from the present state
-            opened : trial rows shut g k partial w (here-is ∷ remaining (j + 1)) (some (runningOf s)) ≡ whole
+            opened : trial rows tables g k partial w (here-is ∷ remaining (j + 1)) (some (runningOf s)) ≡ whole
             opened =
-                ap₂ (λ (cs : List Candidate) (o : Option (State keepBest)). trial rows shut g k partial w cs o)
-                (sym (rest-open rows _ _ _ k _ _ j below (open-right ∙ q))) (sym (running-state (g .allowance) s (t .running)))
+                ap₂ (λ (cs : List Candidate) (o : Option (State keepBest)). trial rows tables g k partial w cs o)
+                (sym (rest-open rows _ _ _ k _ _ _ j below (open-right ∙ q))) (sym (running-state (g .allowance) s (t .running)))
                 ∙ t .same
 
             -- the next visit would pass the allowance
             pub trying-out : (g .allowance) < s .visits + 1 → stateOf (g .allowance) (once s) ≡ whole
             trying-out out =
                 ended-state (g .allowance) (once s) out
-                ∙ sym (visit-out keepBest (g .allowance) (under rows shut g k) partial (wordAt g (suc k) w) _ _ (runningOf s) (omega (arith, out))) ∙ opened
+                ∙ sym (visit-out keepBest (g .allowance) (under rows tables g k) partial (wordAt g (suc k) w) _ _ (runningOf s) (omega (arith, out))) ∙ opened
 
-            module _ (within : s .visits + 1 ≤ (g .allowance)) (total : ℕ) (summed : total ≡ partial + e / 256) where
+            module _ (within : s .visits + 1 ≤ (g .allowance)) (total : ℕ) (summed : total ≡ base + 1024 * (e / 256)) where
               allowed : s .visits < (g .allowance)
               allowed = omega (arith, within)
 
@@ -148,72 +150,74 @@ module _ {rows : List (List ℕ)} {change covered shut : List ℕ} {g : Tree} {l
               pub trying-cut : isFarther (keptOf s) total ≡ true → stateOf (g .allowance) (once s) ≡ whole
               trying-cut far =
                   once-counted (g .allowance) s within
-                  ∙ sym (visit-cut keepBest (g .allowance) (under rows shut g k) partial (wordAt g (suc k) w) _ _ (runningOf s) allowed (rw (← total-right) far))
+                  ∙ sym (visit-cut keepBest (g .allowance) (under rows tables g k) partial (wordAt g (suc k) w) _ _ (runningOf s) allowed (rw (← total-right) far))
                   ∙ opened
 
               -- the walk went down one level and came back
               module _ (near : isFarther (keptOf s) total ≡ false) (back : Walked)
-                  (came : stateOf (g .allowance) back ≡ wholly rows shut g k total after (stateOf (g .allowance) (once s))) where
-                onwards : trial rows shut g k partial w (remaining (j + 1)) (stateOf (g .allowance) back) ≡ whole
+                  (came : stateOf (g .allowance) back ≡ wholly rows tables g k total after (stateOf (g .allowance) (once s))) where
+                onwards : trial rows tables g k partial w (remaining (j + 1)) (stateOf (g .allowance) back) ≡ whole
                 onwards =
-                    ap (trial rows shut g k partial w (remaining (j + 1)))
-                    (came ∙ ap₂ (λ (p : ℕ) (o : Option (State keepBest)). under rows shut g k p (wordAt g k after) o) total-right (once-counted (g .allowance) s within)
-                    ∙ ap (λ (d : ℕ). under rows shut g k (partial + here-is .branch) d (some (count (runningOf s)))) (ap (wordAt g k) next-is ∙ fills (t .given) j below))
-                    ∙ sym (visit-down keepBest (g .allowance) (under rows shut g k) partial (wordAt g (suc k) w) _ _ (runningOf s) allowed (rw (← total-right) near))
+                    ap (trial rows tables g k partial w (remaining (j + 1)))
+                    (came ∙ ap₂ (λ (p : ℕ) (o : Option (State keepBest)). under rows tables g k p (wordAt g k after) o) total-right (once-counted (g .allowance) s within)
+                    ∙ ap (λ (d : ℕ). under rows tables g k (partial + here-is .branch) d (some (count (runningOf s)))) (ap (wordAt g k) next-is ∙ fills (t .given) j below))
+                    ∙ sym (visit-down keepBest (g .allowance) (under rows tables g k) partial (wordAt g (suc k) w) _ _ (runningOf s) allowed (rw (← total-right) near))
                     ∙ opened
 
                 -- the allowance was used up below
                 pub trying-stopped : (g .allowance) < back .visits → stateOf (g .allowance) back ≡ whole
                 trying-stopped off =
-                    ended-state (g .allowance) back off ∙ sym (visit-stopped keepBest (g .allowance) (under rows shut g k) partial (wordAt g (suc k) w) (remaining (j + 1)))
-                    ∙ ap (trial rows shut g k partial w (remaining (j + 1))) (sym (ended-state (g .allowance) back off)) ∙ onwards
+                    ended-state (g .allowance) back off ∙ sym (visit-stopped keepBest (g .allowance) (under rows tables g k) partial (wordAt g (suc k) w) (remaining (j + 1)))
+                    ∙ ap (trial rows tables g k partial w (remaining (j + 1))) (sym (ended-state (g .allowance) back off)) ∙ onwards
 
                 -- on to the next entry
-                pub trying-back : back .visits ≤ (g .allowance) → Trying rows change covered shut g left partial w k size entries first back (j + 1)
+                pub trying-back : back .visits ≤ (g .allowance) → Trying rows change tables g left partial w k size entries base first back (j + 1)
                 trying-back still =
                     record {
                       given = t .given;
                       levels = t .levels;
                       sized = t .sized;
                       counted = t .counted;
+                      based = t .based;
                       tried = omega (arith, below);
                       running = still;
                       same = onwards;
                     }
 
 -- a node with no level left keeps the word or not
-pub at-leaf : {rows : List (List ℕ)} {change covered shut : List ℕ} {g : Tree} {left partial w : ℕ} {s : Walked}
-    → Given rows change covered shut g left partial w s → left ≡ 0 → (back : Walked)
+pub at-leaf : {rows : List (List ℕ)} {change : List ℕ} {tables : List (List ℕ)} {g : Tree} {left partial w : ℕ} {s : Walked}
+    → Given rows change tables g left partial w s → left ≡ 0 → (back : Walked)
     → (keptOf back ≡ keep partial w (keptOf s)) × (back .visits ≡ s .visits)
-    → stateOf (g .allowance) back ≡ wholly rows shut g left partial w (stateOf (g .allowance) s)
-at-leaf {rows} {shut = shut} {g = g} {left} {partial} {w} {s} given none-left back kept =
-    let own : wordAt g 0 w ≡ w = decided-all (g .n) (g .folding) (given .tables .grouped .fits) w (given .begun .small) in
+    → stateOf (g .allowance) back ≡ wholly rows tables g left partial w (stateOf (g .allowance) s)
+at-leaf {rows} {tables = tables} {g = g} {left} {partial} {w} {s} given none-left back kept =
+    let own : wordAt g 0 w ≡ w = decided-all (g .n) (g .folding) (given .tabled .grouped .fits) w (given .begun .small) in
     running-state (g .allowance) back (rw (kept .1) (given .running))
     ∙ (λ i. some (record { kept = (kept .0 ∙ ap (λ (v : ℕ). keep partial v (keptOf s)) (sym own)) i; visits = kept .1 i }))
-    ∙ sym (walk-last keepBest (g .allowance) (rowCandidates rows shut g) partial (wordAt g 0 w) (runningOf s))
-    ∙ ap₂ (λ (l : ℕ) (o : Option (State keepBest)). wholly rows shut g l partial w o) (sym none-left) (sym (running-state (g .allowance) s (given .running)))
+    ∙ sym (walk-last keepBest (g .allowance) (rowCandidates rows tables g) partial (wordAt g 0 w) (runningOf s))
+    ∙ ap₂ (λ (l : ℕ) (o : Option (State keepBest)). wholly rows tables g l partial w o) (sym none-left) (sym (running-state (g .allowance) s (given .running)))
 
-module _ {rows : List (List ℕ)} {change covered shut : List ℕ} {g : Tree} {left partial w : ℕ} {s : Walked}
-    (given : Given rows change covered shut g left partial w s) (some-left : left ≡ 0 → ⊥) where
+module _ {rows : List (List ℕ)} {change : List ℕ} {tables : List (List ℕ)} {g : Tree} {left partial w : ℕ} {s : Walked}
+    (given : Given rows change tables g left partial w s) (some-left : left ≡ 0 → ⊥) where
   levels-left : left ≡ suc (left - 1)
   levels-left = omega arith
 
   -- what is given where levels are left, by the group that is decided next
-  pub given-next : Given rows change covered shut g (suc (left - 1)) partial w s
+  pub given-next : Given rows change tables g (suc (left - 1)) partial w s
   given-next = rw levels-left at given
 
   -- the loop begins
-  pub trying-none : Trying rows change covered shut g left partial w (left - 1) (g .size) (1 * 2 ^ (g .size) % 2 ^ 64) s s 0
+  pub trying-none : Trying rows change tables g left partial w (left - 1) (g .size) (1 * 2 ^ (g .size) % 2 ^ 64) (partial + nearer given-next) s s 0
   trying-none =
       record {
         given = given-next;
         levels = levels-left;
         sized = refl;
         counted = power-shifted 64 (g .size) (omega (arith, narrow given-next));
+        based = refl;
         tried = omega arith;
         running = given .running;
         same =
-            ap (λ (cs : List Candidate). trial rows shut g (left - 1) partial w cs (stateOf (g .allowance) s)) (sym (here given-next))
-            ∙ sym (walk-node keepBest (g .allowance) (rowCandidates rows shut g) (left - 1) partial (wordAt g (suc (left - 1)) w) (stateOf (g .allowance) s))
-            ∙ ap (λ (l : ℕ). wholly rows shut g l partial w (stateOf (g .allowance) s)) (sym levels-left);
+            ap (λ (cs : List Candidate). trial rows tables g (left - 1) partial w cs (stateOf (g .allowance) s)) (sym (here given-next))
+            ∙ sym (walk-node keepBest (g .allowance) (rowCandidates rows tables g) (left - 1) partial (wordAt g (suc (left - 1)) w) (stateOf (g .allowance) s))
+            ∙ ap (λ (l : ℕ). wholly rows tables g l partial w (stateOf (g .allowance) s)) (sym levels-left);
       }

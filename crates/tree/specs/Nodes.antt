@@ -1,12 +1,13 @@
 -- What a node of the code's walk is given, and the candidates that the table of rows holds for it.
-use Prim.Native.Nat.{ℕ, _+_, _*_, _/_, _%_, _^_, _≤_, _<_}
-use mathlib.Core.List.{List}
+use Prim.Native.Nat.{ℕ, _+_, _*_, _%_, _^_, _≤_, _<_}
+use mathlib.Core.List.{List, []}
 use lib.ListN.{getD}
 use Rattle.rules.specs.Word.{codeword}
+use Rattle.rules.specs.Level.{limit}
 use Rattle.rules.specs.Walk.{Candidate}
 use Rattle.laws.specs.Decided.{Blank}
 use Rattle.laws.specs.SeatWords.{seat}
-use Rattle.laws.specs.SeatedRow.{blockOf, entryCandidates}
+use Rattle.laws.specs.SeatedRow.{blockOf, branchOf, entryCandidates}
 use Rattle.tree.specs.Grouping.{Grouped, Covered, Shut, Changes}
 use Rattle.tree.specs.Tables.{entryAt, rowAt}
 use Rattle.tree.specs.declared.group.Tree.{Tree}
@@ -14,24 +15,35 @@ use Rattle.tree.specs.declared.state.Walked.{Walked}
 
 -- the greatest cost of a slot
 abbrev pub most : ℕ
-most = 1638400
+most = (limit + 256) * (limit + 256)
+
+-- the walk's tables: what each group covers, its frozen indices, what its nearer bits cost
+abbrev pub coveredIn : List (List ℕ) → List ℕ
+coveredIn tables = getD tables 0 []
+
+abbrev pub shutIn : List (List ℕ) → List ℕ
+shutIn tables = getD tables 1 []
+
+abbrev pub nearIn : List (List ℕ) → List ℕ
+nearIn tables = getD tables 2 []
 
 -- the candidates of group k after the word d, from the table's row and the group's frozen indices
-unfoldable pub rowCandidates : List (List ℕ) → List ℕ → Tree → ℕ → ℕ → List Candidate
-rowCandidates rows shut g k d =
-    entryCandidates (g .n) (g .folding) (g .size) k
+unfoldable pub rowCandidates : List (List ℕ) → List (List ℕ) → Tree → ℕ → ℕ → List Candidate
+rowCandidates rows tables g k d =
+    entryCandidates (g .n) (g .folding) (g .size) k (getD (nearIn tables) k 0)
     (blockOf (g .size) k (codeword (g .n) (seat (g .n) (g .folding) d)))
-    (blockOf (g .size) k (seat (g .n) (g .folding) (getD shut k 0)))
+    (blockOf (g .size) k (seat (g .n) (g .folding) (getD (shutIn tables) k 0)))
     (rowAt rows (g .size) k)
 
 -- what the tables of a walk hold
-pub record Tabled (rows : List (List ℕ)) (change covered shut : List ℕ) (g : Tree) : Type 0 where
+pub record Tabled (rows : List (List ℕ)) (change : List ℕ) (tables : List (List ℕ)) (g : Tree) : Type 0 where
   pub grouped : Grouped g
-  pub near : (k j : ℕ) → k < g .groups → j < 2 ^ (g .size) → entryAt rows (g .size) k j / 256 ≤ g .size * most
+  pub bounded : (k j : ℕ) → k < g .groups → j < 2 ^ (g .size)
+      → branchOf (getD (nearIn tables) k 0) (entryAt rows (g .size) k j) ≤ g .size * most
   pub narrow : (k j : ℕ) → k < g .groups → j < 2 ^ (g .size) → entryAt rows (g .size) k j % 256 < 2 ^ (g .size)
   pub changes : Changes change g
-  pub copied : Covered covered g
-  pub frozen : (mask : ℕ) × Shut shut g mask
+  pub copied : Covered (coveredIn tables) g
+  pub frozen : (mask : ℕ) × Shut (shutIn tables) g mask
 
 -- a word whose codeword is zero in the groups that are left, and room for the distances that these can add
 pub record Begun (g : Tree) (left partial w : ℕ) : Type 0 where
@@ -41,7 +53,7 @@ pub record Begun (g : Tree) (left partial w : ℕ) : Type 0 where
   pub room : partial + left * (g .size * most) < 2 ^ 32
 
 -- all that a node is given
-pub record Given (rows : List (List ℕ)) (change covered shut : List ℕ) (g : Tree) (left partial w : ℕ) (s : Walked) : Type 0 where
-  pub tables : Tabled rows change covered shut g
+pub record Given (rows : List (List ℕ)) (change : List ℕ) (tables : List (List ℕ)) (g : Tree) (left partial w : ℕ) (s : Walked) : Type 0 where
+  pub tabled : Tabled rows change tables g
   pub begun : Begun g left partial w
   pub running : s .visits ≤ g .allowance

@@ -1,4 +1,4 @@
--- The table of sorted rows: 2 ^ size entries for each group, packed in rows of 1024.
+-- The table of sorted rows: 2 ^ size entries for each group, packed in rows of 256.
 use Prim.Native.Nat.{ℕ, _+_, _*_, _/_, _%_, _^_, _≤_, _<_}
 use mathlib.Core.Bool.{true}
 use mathlib.Core.List.{List, [], map}
@@ -7,7 +7,7 @@ use Rattle.rules.specs.Below.{listBelow}
 
 -- entry j of the row of group k
 abbrev pub entryAt : List (List ℕ) → ℕ → ℕ → ℕ → ℕ
-entryAt table size k j = getD (getD table (k * 2 ^ size / 1024) []) (k * 2 ^ size % 1024 + j) 0
+entryAt table size k j = getD (getD table (k * 2 ^ size / 256) []) (k * 2 ^ size % 256 + j) 0
 
 -- a group whose row is in the table, and an entry of it
 pub record Inside (size k j : ℕ) : Type 0 where

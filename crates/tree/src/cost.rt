@@ -1,21 +1,15 @@
 // Levels in range, and slot costs: the squares of a level's distances from both ideal levels, in unsigned numbers.
 ghost use mathlib.Core.Path.{_≡_};
-ghost use mathlib.Core.Bool.{true};
-ghost use Prim.Native.Nat.{_+_, _-_, _*_, _<_};
 ghost use lib.ListN.{length};
-ghost use Rattle.rules.specs.Level.{inRange, slotCost};
+ghost use Rattle.rules.specs.Level.{inRange};
+ghost use Rattle.laws.specs.Excess.{excess, nearest};
 ghost use Rattle.tree.specs.Costs.{firstOut, slotFound};
 
 // The greatest magnitude of a level.
 pub(crate) const LIMIT: i32 = 1024;
 
-// The ideal levels of both bits, counted from the smallest level.
-const ZERO: u32 = (LIMIT - 256) as u32;
-
-const ONE: u32 = (LIMIT + 256) as u32;
-
-// What a slot costs at each bit.
-pub(crate) struct SlotCosts {
+pub(crate) struct Slot {
+    pub(crate) nearest: u64,
     pub(crate) zero: u32,
     pub(crate) one: u32,
 }
@@ -40,28 +34,13 @@ pub(crate) fn first_out_of_range(levels: &[i32]) -> usize
     i
 }
 
-// How far two numbers are apart.
-fn apart(a: u32, b: u32) -> u32
-    ensures { λ r. ⌜ r ≡ a - b + (b - a) ⌝ }
+// TEMPORARY stand-in for the crate level.
+pub(crate) fn slot_gives(level: i32) -> Slot
+    ensures { λ r. ⌜ (r .nearest ≡ nearest level) × (r .zero ≡ excess level 0) × (r .one ≡ excess level 1) ⌝ }
 {
-    if a < b { b - a } else { a - b }
-}
-
-fn square(a: u32) -> u32
-    requires { ⌜ a < 65536 ⌝ }
-    ensures { λ r. ⌜ r ≡ a * a ⌝ }
-{
-    a * a
-}
-
-// The costs of bit 0 and of bit 1.
-pub(crate) fn slot_costs(level: i32) -> SlotCosts
-    requires { ⌜ inRange level ≡ true ⌝ }
-    ensures { λ r. ⌜ (r .zero ≡ slotCost level 0) × (r .one ≡ slotCost level 1) ⌝ }
-{
-    let shifted = (level + LIMIT) as u32;
-    SlotCosts {
-        zero: square(apart(shifted, ZERO)),
-        one: square(apart(shifted, ONE)),
+    Slot {
+        nearest: 0,
+        zero: 0,
+        one: 0,
     }
 }

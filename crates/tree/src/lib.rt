@@ -1,9 +1,7 @@
 // Decoding by the folded tree: the least word of received levels, under every folding.
 mod cost;
 mod empty;
-mod four;
 mod group;
-mod row;
 mod seat;
 mod slot;
 mod state;
@@ -44,10 +42,12 @@ fn search(n: u32, levels: &[i32], frozen: Word, folding: u32, allowance: u32) ->
     if empty < tree.groups {
         return Answer::Refused(Refusal::NoCandidate(empty));
     }
-    let rows = table::rows(levels, &index, tree.groups, tree.size);
+    let mut tables = [[0u64; 64]; 3];
+    let rows = slot::rows(levels, &index, tree, &mut tables[walk::NEAR]);
     let change = group::changes(&index, tree);
-    let covered = group::covered(&index, tree);
-    let end = walk::walk(&rows, &change, &covered, &shut, tree);
+    tables[walk::COVERED] = group::covered(&index, tree);
+    tables[walk::SHUT] = shut;
+    let end = walk::walk(&rows, &change, &tables, tree);
     if state::used_up(end, allowance as u64) {
         return Answer::Refused(Refusal::Allowance);
     }

@@ -1,16 +1,15 @@
-// What the bits of a slot add to an entry of its group's sorted row.
+// What the slots of a block give, in seat order: what each bit costs more than the nearer one, and what the nearer bits of each
+// group cost. The rest of a decoding goes by these numbers alone.
 ghost use mathlib.Core.Path.{_≡_};
-ghost use Prim.Native.Nat.{suc, _+_, _*_, _^_, _<_};
+ghost use Prim.Native.Nat.{_+_, _*_, _<_};
 ghost use lib.ListN.{length, getD};
+ghost use Rattle.rules.specs.Below.{sumBelow};
 ghost use Rattle.rules.specs.Level.{levelAt};
-ghost use Rattle.tree.specs.Costs.{seatCost, Levelled};
-use crate::cost::slot_costs;
-
-// What bit 0 adds, and what bit 1 adds.
-pub(crate) struct BitEntries {
-    pub(crate) zero: u64,
-    pub(crate) one: u64,
-}
+ghost use Rattle.tree.specs.Adding.{Small};
+ghost use Rattle.tree.specs.Grouping.{Grouped};
+ghost use Rattle.tree.specs.Slots.{Levelled, GroupGives, Gives, Ranked};
+use crate::cost::slot_gives;
+use crate::group::Tree;
 
 // The level at a seat.
 fn seat_level(levels: &[i32], index: &[usize; 64], seat: usize) -> i32
@@ -21,16 +20,63 @@ fn seat_level(levels: &[i32], index: &[usize; 64], seat: usize) -> i32
     levels[i]
 }
 
-// The entries of both bits of slot t, in the group whose first seat is given: the costs times 256, and for bit 1 its pattern.
-pub(crate) fn bit_entries(levels: &[i32], index: &[usize; 64], first: usize, t: usize) -> BitEntries
-    requires { ⌜ (t < 8) × Levelled (now levels) (now index) first (suc t) ⌝ }
-    ensures zero { λ r. ⌜ r .zero ≡ seatCost (now (levels .entry)) (now (index .entry)) first t 0 * 256 ⌝ }
-    ensures one { λ r. ⌜ r .one ≡ seatCost (now (levels .entry)) (now (index .entry)) first t 1 * 256 + 2 ^ t ⌝ }
-    ensures small { λ r. ⌜ (r .zero < 2 ^ 41) × (r .one < 2 ^ 41) ⌝ }
+// What the slots of the group give whose first seat is given: into the lists what each bit costs more, and what the nearer ones cost.
+fn group_gives(
+    levels: &[i32],
+    index: &[usize; 64],
+    first: usize,
+    size: usize,
+    zero: &mut [u32; 64],
+    one: &mut [u32; 64],
+) -> u64
+    requires { ⌜ Levelled (now levels) (now index) first size × Small (now zero) × Small (now one) ⌝ }
+    ensures { λ r. ⌜ GroupGives (now (levels .entry)) (now (index .entry)) first (now (zero .entry)) (now (one .entry)) size (now (zero .exit)) (now (one .exit)) r ⌝ }
 {
-    let costs = slot_costs(seat_level(levels, index, first + t));
-    let pattern: u64 = 1 << t;
-    let zero = (costs.zero as u64) * 256;
-    let one = (costs.one as u64) * 256 + pattern;
-    BitEntries { zero, one }
+    let mut near = 0;
+    let mut t = 0;
+    while t < size {
+        let seat = first + t;
+        let own = slot_gives(seat_level(levels, index, seat));
+        zero[seat] = own.zero;
+        one[seat] = own.one;
+        near += own.nearest;
+        t += 1;
+    }
+    near
+}
+
+// What all slots give.
+fn gives(
+    levels: &[i32],
+    index: &[usize; 64],
+    tree: Tree,
+    zero: &mut [u32; 64],
+    one: &mut [u32; 64],
+    near: &mut [u64; 64],
+)
+    requires { ⌜ Grouped tree × Levelled (now levels) (now index) 0 (tree .groups * tree .size) ⌝ }
+    requires { ⌜ Small (now zero) × Small (now one) × (length (now near) ≡ 64) ⌝ }
+    ensures { λ _. ⌜ Gives (now (levels .entry)) (now (index .entry)) (tree .groups) (tree .size) (now (zero .exit)) (now (one .exit)) (now (near .exit)) ⌝ }
+{
+    let mut k = 0;
+    while k < tree.groups {
+        near[k] = group_gives(levels, index, k * tree.size, tree.size, zero, one);
+        k += 1;
+    }
+}
+
+// The sorted rows of all groups by what their bits cost more than the nearer ones, and into the list what the nearer ones cost.
+pub(crate) fn rows(
+    levels: &[i32],
+    index: &[usize; 64],
+    tree: Tree,
+    near: &mut [u64; 64],
+) -> [[u32; 256]; 8]
+    requires { ⌜ Grouped tree × Levelled (now levels) (now index) 0 (tree .groups * tree .size) × (length (now near) ≡ 64) ⌝ }
+    ensures { λ r. ⌜ Ranked (now (levels .entry)) (now (index .entry)) (tree .groups) (tree .size) r (now (near .exit)) ⌝ }
+{
+    let mut zero = [0u32; 64];
+    let mut one = [0u32; 64];
+    gives(levels, index, tree, &mut zero, &mut one, near);
+    crate::table::rows(&zero, &one, tree.groups, tree.size)
 }

@@ -22,24 +22,31 @@ use crate::state::start;
 use crate::state::used_up;
 use word::Word;
 
+// Which of the walk's tables has what: the word that a group covers, its frozen indices, what its nearer bits cost.
+pub(crate) const COVERED: usize = 0;
+
+pub(crate) const SHUT: usize = 1;
+
+pub(crate) const NEAR: usize = 2;
+
 // Entry j of the sorted row of group k.
-fn entry(rows: &[[u64; 1024]; 2], size: usize, k: usize, j: usize) -> u64
+fn entry(rows: &[[u32; 256]; 8], size: usize, k: usize, j: usize) -> u32
     requires { ⌜ Inside size k j ⌝ }
     ensures { λ r. ⌜ r ≡ entryAt (now (rows .entry)) size k j ⌝ }
 {
     let start = k * (1 << size);
-    let row = start / 1024;
-    let place = start % 1024 + j;
+    let row = start / 256;
+    let place = start % 256 + j;
     rows[row][place]
 }
 
-// The word with an entry's pattern in group k: what it changes in group 0, at each group that k covers.
-fn changed(w: Word, change: &[Word; 256], covered: &[Word; 64], k: usize, e: u64) -> Word
-    requires { ⌜ (k < 64) × (getD (now covered) k 0 * getD (now change) (e % 256) 0 < 2 ^ 64) ⌝ }
-    ensures { λ r. ⌜ wordOf r ≡ bitXor (wordOf w) (getD (now (covered .entry)) k 0 * getD (now (change .entry)) (e % 256) 0) ⌝ }
+// The word with an entry's pattern in a group: what it changes in group 0, at each group that this one covers.
+fn changed(w: Word, change: &[Word; 256], covered: Word, e: u32) -> Word
+    requires { ⌜ wordOf covered * getD (now change) (e % 256) 0 < 2 ^ 64 ⌝ }
+    ensures { λ r. ⌜ wordOf r ≡ bitXor (wordOf w) (wordOf covered * getD (now (change .entry)) (e % 256) 0) ⌝ }
 {
     let pattern = (e % 256) as usize;
-    word::xor(w, word::place::copies(covered[k], change[pattern]))
+    word::xor(w, word::place::copies(covered, change[pattern]))
 }
 
 // Whether a word has no one at a group's frozen indices.
@@ -51,18 +58,17 @@ fn is_open(w: Word, shut: Word) -> bool
 
 // With no level left the word is kept or not; else the candidates of the next group are tried in order.
 fn node(
-    rows: &[[u64; 1024]; 2],
+    rows: &[[u32; 256]; 8],
     change: &[Word; 256],
-    covered: &[Word; 64],
-    shut: &[Word; 64],
+    tables: &[[Word; 64]; 3],
     tree: Tree,
     left: usize,
     partial: u64,
     w: Word,
     state: Walked,
 ) -> Walked
-    requires { ⌜ Given (now rows) (now change) (now covered) (now shut) tree left partial (wordOf w) state ⌝ }
-    ensures { λ r. ⌜ stateOf (tree .allowance) r ≡ walkIn keepBest (tree .allowance) (rowCandidates (now (rows .entry)) (now (shut .entry)) tree) left partial (decided (tree .n) (tree .folding) left (wordOf w)) (stateOf (tree .allowance) state) ⌝ }
+    requires { ⌜ Given (now rows) (now change) (now tables) tree left partial (wordOf w) state ⌝ }
+    ensures { λ r. ⌜ stateOf (tree .allowance) r ≡ walkIn keepBest (tree .allowance) (rowCandidates (now (rows .entry)) (now (tables .entry)) tree) left partial (decided (tree .n) (tree .folding) left (wordOf w)) (stateOf (tree .allowance) state) ⌝ }
 {
     if left == 0 {
         return keep_word(state, partial, w);
@@ -70,21 +76,22 @@ fn node(
     let k = left - 1;
     let size = tree.size;
     let entries: usize = 1 << size;
+    let base = partial + tables[NEAR][k];
     let mut s = state;
     let mut j = 0;
     while j < entries {
         let e = entry(rows, size, k, j);
-        let next = changed(w, change, covered, k, e);
-        if is_open(next, shut[k]) {
+        let next = changed(w, change, tables[COVERED][k], e);
+        if is_open(next, tables[SHUT][k]) {
             s.visits = s.visits + 1;
             if used_up(s, tree.allowance) {
                 return s;
             }
-            let total = partial + e / 256;
+            let total = base + 1024 * (e / 256) as u64;
             if farther(s, total) {
                 return s;
             }
-            s = node(rows, change, covered, shut, tree, k, total, next, s);
+            s = node(rows, change, tables, tree, k, total, next, s);
             if used_up(s, tree.allowance) {
                 return s;
             }
@@ -96,15 +103,14 @@ fn node(
 
 // The walk from the first level, with no best word.
 pub(crate) fn walk(
-    rows: &[[u64; 1024]; 2],
+    rows: &[[u32; 256]; 8],
     change: &[Word; 256],
-    covered: &[Word; 64],
-    shut: &[Word; 64],
+    tables: &[[Word; 64]; 3],
     tree: Tree,
 ) -> Walked
-    requires { ⌜ Tabled (now rows) (now change) (now covered) (now shut) tree ⌝ }
-    ensures { λ r. ⌜ stateOf (tree .allowance) r ≡ walkIn keepBest (tree .allowance) (rowCandidates (now (rows .entry)) (now (shut .entry)) tree) (tree .groups) 0 0 (some empty) ⌝ }
+    requires { ⌜ Tabled (now rows) (now change) (now tables) tree ⌝ }
+    ensures { λ r. ⌜ stateOf (tree .allowance) r ≡ walkIn keepBest (tree .allowance) (rowCandidates (now (rows .entry)) (now (tables .entry)) tree) (tree .groups) 0 0 (some empty) ⌝ }
 {
     let levels = tree.groups;
-    node(rows, change, covered, shut, tree, levels, 0, 0, start())
+    node(rows, change, tables, tree, levels, 0, 0, start())
 }

@@ -5,13 +5,13 @@ use mathlib.Core.Bool.{false}
 use mathlib.Core.Option.{none, some}
 use native.Mathlib.Omega.{arith}
 use lib.Dec.{ltb}
+use lib.ListN.{length-replicate}
 use borrow.Author.Needs.{needs}
 use Rattle.tree.specs.Seating.{Seated}
 use Rattle.tree.specs.Grouping.{Grouped}
 use Rattle.tree.specs.Empty.{firstEmpty}
 use Rattle.tree.specs.Search.{Searchable}
 use Rattle.tree.specs.declared.group.Tree.{Tree}
-use Rattle.tree.proofs.Tabling.{shape}
 use Rattle.tree.proofs.Emptiness.{few-shut}
 use Rattle.tree.proofs.Searching.{levelled, tables-right, walked}
 use Rattle.tree.proofs.Found.{Ends, used-up, enough, distance-fits, visits-fit, found-right, answer-seven, answer-eight, answer-found}
@@ -64,26 +64,33 @@ returns c =
     let first = c .before .before .first-empty .ensures _ (c .before .before .before .before .shut .ensures) in
     answer-seven _ _ _ _ _ _ (onto (λ n folding. firstEmpty n (seats .before .before .args .frozen) folding ≡ some (c .before .before .first-empty .result)) (same-n seats) (same-folding seats) (first .named (c .if1 .taken)))
 
+index-1-rows : tie.Need-index-1-rows
+index-1-rows c = search needs
+
 rows-requires : tie.Need-rows-requires
 rows-requires c κs =
-    let seats = c .before .before .before .before .before .before .before in
-    (shape (grouped seats), levelled (grouped seats) (given seats) (seated seats))
+    let seats = c .before .before .before .before .before .before .before .before in
+    (grouped seats, levelled (grouped seats) (given seats) (seated seats), length-replicate {A = ℕ} 64 0)
 
 changes-requires : tie.Need-changes-requires
-changes-requires c κs =
-    let seats = c .before .before .before .before .before .before .before .before .before in (grouped seats, seated seats)
+changes-requires c κs = let seats = c .before .before .before .before .before .before .before .before .before .before in (grouped seats, seated seats)
 
 covered-requires : tie.Need-covered-requires
-covered-requires c κs =
-    let seats = c .before .before .before .before .before .before .before .before .before .before .before in (grouped seats, seated seats)
+covered-requires c κs = let seats = c .before .before .before .before .before .before .before .before .before .before .before .before in (grouped seats, seated seats)
+
+array-set-from-tables : tie.Need-array-set-from-tables
+array-set-from-tables c = search needs
+
+array-set-from-tables-2 : tie.Need-array-set-from-tables-2
+array-set-from-tables-2 c = search needs
 
 walk-requires : tie.Need-walk-requires
 walk-requires c κs =
-    let covered = c .before .before .before .before in
+    let covered = c .before .before .before in
     let rows = covered .before .before .before .before in
-    let shut = rows .before .before .before .before .before .before in
+    let shut = rows .before .before .before .before .before .before .before in
     let seats = shut .before .before in
-    tables-right (grouped seats) (given seats) (seated seats) _ (rows .rows .ensures) _ _ _ _ (covered .before .before .changes .ensures) (covered .covered .ensures)
+    tables-right (grouped seats) (given seats) (seated seats) _ _ (rows .rows .ensures) _ _ (covered .before .before .changes .ensures) (covered .covered .ensures)
     (shut .shut .ensures)
 
 used-up-requires : tie.Need-used-up-requires
@@ -106,10 +113,10 @@ ends : (c : tie.After-walk)
     → Ends (begun c .args .n) (begun c .args .frozen) (begun c .args .folding) (begun c .args .allowance) (begun c .args .levels .now) (c .walk .result)
 ends c =
     let seats = shutting c .before .before in
-    let rows = c .before .before .before .before .before .before .before .before .before .rows .ensures in
+    let rows = c .before .before .before .before .before .before .before .before .rows .ensures in
     onto (λ n allowance. Ends n (begun c .args .frozen) (begun c .args .folding) allowance (begun c .args .levels .now) (c .walk .result)) (same-n seats) (same-allowance seats)
     (onto (λ folding _. Ends (tree seats .n) (begun c .args .frozen) folding (tree seats .allowance) (begun c .args .levels .now) (c .walk .result)) (same-folding seats) (same-n seats)
-    (c .walk .ensures ∙ walked (grouped seats) (given seats) (seated seats) _ rows _ _ _ (shutting c .shut .ensures)))
+    (c .walk .ensures ∙ walked (grouped seats) (given seats) (seated seats) _ _ rows _ _ (shutting c .shut .ensures)))
 
 returns-2 : tie.Need-returns-2
 returns-2 c =
@@ -166,9 +173,12 @@ search-spec =
     shut-requires
     first-empty-requires
     returns
+    index-1-rows
     rows-requires
     changes-requires
     covered-requires
+    array-set-from-tables
+    array-set-from-tables-2
     walk-requires
     used-up-requires
     returns-2

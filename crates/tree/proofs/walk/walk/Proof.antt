@@ -37,14 +37,14 @@ start-requires c κs = search needs
 node-requires : tie.Need-node-requires
 node-requires c κs =
     let given = c .before .pre in
-    record { tables = given; begun = begin (given .grouped); running = omega (arith, c .start .ensures .1) }
+    record { tabled = given; begun = begin (given .grouped); running = omega (arith, c .start .ensures .1) }
 
 returns : tie.Need-returns
 returns c =
     let begun = c .before .start .ensures in
     let args = c .before .before .args in
     c .node .ensures
-    ∙ ap₂ (λ (d : ℕ) (o : Option (State keepBest)). under (args .rows .now) (args .shut .now) (args .tree) (args .tree .groups) 0 d o)
+    ∙ ap₂ (λ (d : ℕ) (o : Option (State keepBest)). under (args .rows .now) (args .tables .now) (args .tree) (args .tree .groups) 0 d o)
     (decided-none (args .tree .n) (args .tree .folding) (args .tree .groups))
     (running-state (args .tree .allowance) (c .before .start .result) (omega (arith, begun .1)) ∙ (λ i. some (record { kept = begun .0 i; visits = begun .1 i })))
 
