@@ -1,5 +1,5 @@
 -- `ones` as a sum of bits, and how many message bits a mask leaves.
--- (`count-le` of Places says K ≤ 2 ^ n, and `ones-le` of lib.Count that an index below 2 ^ n has at most n ones.)
+-- (`ones-le` of lib.Count says that an index below 2 ^ n has at most n ones.)
 use Prim.Native.Nat.{ℕ, zero, suc, _+_, _/_, _%_, _^_, _<_}
 use mathlib.Core.Path.{_≡_, refl, ap, _∙_}
 use mathlib.Core.Bool.{cond}

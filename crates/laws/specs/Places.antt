@@ -28,12 +28,6 @@ module _ (test : ℕ → Bool) where
       go true e = omega (arith, count-passing i e)
       go false e = omega (arith, count-failing i e)
 
-  -- at most i numbers stand below i
-  pub count-le : (i : ℕ) → countBelow i test ≤ i
-  unfolding countBelow
-  count-le zero = zero-le
-  count-le (suc i) = omega (arith, count-le i, count-step i)
-
   -- counting further counts no less
   pub count-mono : {i j : ℕ} → i ≤ j → countBelow i test ≤ countBelow j test
   count-mono {i} {j} h =

@@ -121,20 +121,6 @@ unfolding firstBelow
 none-of zero test h = refl
 none-of (suc m) test h = rw (none-of m test (λ i l. h i (omega arith)), h m (omega arith))
 
--- a first number is below the bound and passes, and each before it fails
-pub some-at : (m : ℕ) (test : ℕ → Bool) (k : ℕ) → firstBelow m test ≡ some k
-    → (k < m) × (test k ≡ true) × ((i : ℕ) → i < k → test i ≡ false)
-unfolding firstBelow
-some-at zero test k e = absurd (Option·none-ne-some k e)
-some-at (suc m) test k e = go (firstBelow m test) (test m) refl refl e (λ t. some-at m test k t)
-  where
-    go : (a : Option ℕ) (b : Bool) → firstBelow m test ≡ a → test m ≡ b → orElse a b m ≡ some k
-        → (firstBelow m test ≡ some k → (k < m) × (test k ≡ true) × ((i : ℕ) → i < k → test i ≡ false))
-        → (k < suc m) × (test k ≡ true) × ((i : ℕ) → i < k → test i ≡ false)
-    go (some j) b p q t below = let r = below (p ∙ t) in (omega arith, r .1, r .2)
-    go none true p q t below = let k≡m : k ≡ m = cc in rw k≡m (omega arith, q, none-at m test p)
-    go none false p q t below = absurd (Option·none-ne-some k t)
-
 -- a number below the bound that passes, where each before it fails, is the first
 pub some-of : (m : ℕ) (test : ℕ → Bool) (k : ℕ) → k < m → test k ≡ true → ((i : ℕ) → i < k → test i ≡ false)
     → firstBelow m test ≡ some k

@@ -3,13 +3,12 @@ use Prim.Native.Nat.{ℕ, _+_, _-_, _^_, _≤_, _<_}
 use mathlib.Core.Path.{_≡_, refl, _∙_, ap}
 use mathlib.Core.List.{List, [], _∷_, _++_}
 use native.Mathlib.Omega.{arith}
-use lib.ListN.{length, set, replicate, length-append}
+use lib.ListN.{length, set, length-append}
 use lib.Seq.{length-sets}
 use Rattle.rules.specs.Text.{space, decimal}
 use Rattle.laws.specs.Digits.{decimal-length}
-use Rattle.laws.specs.Stores.{sets-append, sets-replicate}
-use Rattle.record.specs.Lines.{Put, Within, longest, padded}
-use Rattle.record.specs.declared.text.Line.{Line}
+use Rattle.laws.specs.Stores.{sets-append}
+use Rattle.record.specs.Lines.{Put, Within}
 
 pub put-none : (out : List ℕ) (at : ℕ) → Put out at [] at out
 put-none out at = record { ends = omega arith; holds = refl }
@@ -48,11 +47,3 @@ module _ {most : ℕ} {before : List ℕ} {at : ℕ} {text : List ℕ} {end : �
   -- what room it leaves
   pub room-left : {room : ℕ} (k : ℕ) → at + room ≤ length before → most + k ≤ room → end + k ≤ length after
   room-left k fits l = omega (arith, part .short, part .put .ends, put-length (part .put))
-
--- a line put into zeros, by value
-pub padded-line : {text : List ℕ} {end : ℕ} {after : List ℕ} → Within longest (replicate longest 0) 0 text end after
-    → _≡_ {A = Line} (record { bytes = after; len = end }) (padded text)
-padded-line {text} {end} {after} line =
-    let len : end ≡ length text = omega (arith, line .put .ends) in
-    let bytes : after ≡ text ++ replicate (longest - length text) 0 = line .put .holds ∙ sets-replicate longest 0 text (line .short) in
-    λ i. record { bytes = bytes i; len = len i }

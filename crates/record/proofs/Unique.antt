@@ -8,18 +8,9 @@ use Rattle.record.proofs.read.read.Reads as read
 use Rattle.tree.specs.Unique as tree
 use Rattle.record.proofs.block.decode.Reads as decode
 use Rattle.record.proofs.piece.lines.Reads as lines
-use Rattle.record.proofs.text.found_line.Reads as found-line
-use Rattle.record.proofs.text.refused_line.Reads as refused-line
 
 pub read-unique : OneResult read.Learnt
 read-unique κs a r s v w p q = answer-injective r s (one-answer (p .0) (q .0)) (one-answer (p .1) (q .1))
-
--- the line says nothing of d and x, so that any do
-pub found-line-unique : OneResult found-line.Learnt
-found-line-unique κs a r s v w p q = one-answer (p 0 0) (q 0 0)
-
-pub refused-line-unique : OneResult refused-line.Learnt
-refused-line-unique κs a r s v w p q = one-answer p q
 
 pub decode-unique : OneResult decode.Learnt
 decode-unique κs a r s v w p q = tree.answer-injective r s (one-answer p q)

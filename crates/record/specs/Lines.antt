@@ -1,12 +1,11 @@
--- What the contracts of a line speak of: text put into a buffer, the answer of a finished decoding, and a line by value.
-use Prim.Native.Nat.{ℕ, _+_, _-_, _≤_}
+-- What the contracts of a line speak of: text put into a buffer, and the answer of a finished decoding.
+use Prim.Native.Nat.{ℕ, _+_, _≤_}
 use mathlib.Core.Path.{_≡_}
-use mathlib.Core.List.{List, _++_}
-use lib.ListN.{length, replicate}
+use mathlib.Core.List.{List}
+use lib.ListN.{length}
 use lib.Seq.{sets}
 use Rattle.rules.specs.Refusals.{Answer, done}
 use Rattle.rules.specs.Answers.{Decoded}
-use Rattle.record.specs.declared.text.Line.{Line}
 
 -- a text is put into a buffer at a place: where it ends, and the whole buffer afterwards
 pub record Put (before : List ℕ) (at : ℕ) (text : List ℕ) (end : ℕ) (after : List ℕ) : Type 0 where
@@ -26,7 +25,3 @@ found message d x distance visits =
 -- the bytes of the longest line, whose numbers have 10 digits
 abbrev pub longest : ℕ
 longest = 56
-
--- a line by value: its bytes, zeros behind them, and its length
-abbrev pub padded : List ℕ → Line
-padded text = record { bytes = text ++ replicate (longest - length text) 0; len = length text }

@@ -3,4 +3,4 @@ pub mod block;
 pub mod piece;
 mod put;
 pub mod read;
-pub mod text;
+mod text;

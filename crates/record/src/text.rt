@@ -1,4 +1,4 @@
-// The line of an answer: written into a lent buffer from a place on, or given as a struct by value.
+// The line of an answer, written into a lent buffer from a place on.
 ghost use mathlib.Core.Path.{_≡_};
 ghost use Prim.Native.Nat.{ℕ, _+_, _≤_};
 ghost use lib.ListN.{length};
@@ -6,19 +6,13 @@ ghost use Rattle.rules.specs.Text.{line};
 ghost use Rattle.rules.specs.Refusals as rules;
 ghost use Rattle.refusal.specs.Number.{refusalOf};
 ghost use Rattle.word.specs.Words.{wordOf};
-ghost use Rattle.record.specs.Lines.{Within, found, longest, padded};
+ghost use Rattle.record.specs.Lines.{Within, found, longest};
 use crate::put::put_bytes;
 use crate::put::put_decimal;
 use crate::put::put_hex;
 use crate::put::put_spaced;
 use refusal::Refusal;
 use word::Word;
-
-// A line with zeros behind it; the longest has 56 bytes.
-pub struct Line {
-    pub bytes: [u8; 56],
-    pub len: usize,
-}
 
 // The line of a finished decoding.
 pub(crate) fn put_found(
@@ -49,22 +43,4 @@ pub(crate) fn put_refused(out: &mut [u8], at: usize, number: u32, refusal: Refus
     let at = put_bytes(out, at, b" refused");
     let at = put_spaced(out, at, refusal::number(refusal) as u64);
     put_bytes(out, at, b"\n")
-}
-
-// The line of a finished decoding, by value.
-pub fn found_line(number: u32, message: Word, distance: u32, visits: u32) -> Line
-    ensures { λ r. ⌜ ((d x : ℕ) → r ≡ padded (line number (found (wordOf message) d x distance visits))) ⌝ }
-{
-    let mut bytes = [0u8; 56];
-    let len = put_found(&mut bytes, 0, number, message, distance, visits);
-    Line { bytes, len }
-}
-
-// The line of a refusal, by value.
-pub fn refused_line(number: u32, refusal: Refusal) -> Line
-    ensures { λ r. ⌜ r ≡ padded (line number (rules.refused (refusalOf refusal))) ⌝ }
-{
-    let mut bytes = [0u8; 56];
-    let len = put_refused(&mut bytes, 0, number, refusal);
-    Line { bytes, len }
 }
