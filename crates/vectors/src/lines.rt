@@ -8,11 +8,8 @@ use refusal::Refusal;
 
 // A byte of a text: '/' for a newline.
 fn byte(b: u8) {
-    if b == b'\n' {
-        printing::say(b"/");
-    } else {
-        printing::say(&[b]);
-    }
+    let shown = if b == b'\n' { b'/' } else { b };
+    printing::say(&[shown]);
 }
 
 // A text after a space, and nothing where it is empty.

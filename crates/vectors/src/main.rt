@@ -16,10 +16,11 @@ mod words;
 
 // What came.
 fn answer(line: &[u8]) {
-    match line::name(
+    let name = line::name(
         line,
         b"new guard encode encode_levels decode level new_assembler take give read record found_line refused_line lines ",
-    ) {
+    );
+    match name {
         0 => codes::new(line),
         1 => codes::guard(line),
         2 => encoding::encode(line),

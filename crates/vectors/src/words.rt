@@ -40,10 +40,11 @@ pub(crate) fn answer(line: &[u8]) {
     let a = line::number(line, 0);
     let b = line::number(line, 1);
     let c = line::number(line, 2);
-    match line::name(
+    let name = line::name(
         line,
         b"bit reaches xor common less map spread gather ones folding_size unfrozen fewest_ones slots wrong_size above copies ",
-    ) {
+    );
+    match name {
         0 => counted(word::bit(a, b as usize) as u64),
         1 => said(word::count::reaches(a, b as usize)),
         2 => came(word::xor(a, b)),
