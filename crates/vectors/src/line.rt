@@ -10,58 +10,28 @@ pub(crate) fn at(line: &[u8], place: usize) -> u8 {
     }
 }
 
-// A name that is looked for: how many names were passed, the place in this one, and whether all was the same so far.
-struct Sought {
-    passed: usize,
-    place: usize,
-    same: bool,
-}
-
-// One byte of the name, and the line's byte at its place.
-fn step(name: Sought, b: u8, given: u8) -> Sought {
-    let place = std::num::wrapping_add_usize(name.place, 1);
-    if b != given {
-        return Sought {
-            passed: name.passed,
-            place,
-            same: false,
-        };
-    }
-    Sought {
-        passed: name.passed,
-        place,
-        same: name.same,
-    }
-}
-
-// The next name.
-fn next(name: Sought) -> Sought {
-    Sought {
-        passed: std::num::wrapping_add_usize(name.passed, 1),
-        place: 0,
-        same: true,
-    }
-}
-
-// Which of the names, each with a space behind it, the line has.
+// Which of the names, each with a space behind it, the line starts with; how many names there are where it is none of them.
 pub(crate) fn name(line: &[u8], names: &[u8]) -> usize {
-    let mut name = Sought {
-        passed: 0,
-        place: 0,
-        same: true,
-    };
+    let mut passed = 0;
+    let mut place = 0;
+    let mut same = true;
     let mut i = 0;
     while i < names.len() {
-        name = step(name, names[i], at(line, name.place));
+        if names[i] != at(line, place) {
+            same = false;
+        }
+        place = std::num::wrapping_add_usize(place, 1);
         if names[i] == b' ' {
-            if name.same {
-                return name.passed;
+            if same {
+                return passed;
             }
-            name = next(name);
+            passed = std::num::wrapping_add_usize(passed, 1);
+            place = 0;
+            same = true;
         }
         i += 1;
     }
-    name.passed
+    passed
 }
 
 // The value of a digit, and 16 for any other byte.

@@ -23,20 +23,19 @@ fn read_of(bytes: &[u8]) {
     }
 }
 
-// Number 0 of the line is how many bytes of the record are given.
-pub(crate) fn read(line: &[u8]) {
-    let record = given::changed(line);
-    let bytes = line::number(line, 0) as usize;
-    if bytes <= 146 {
-        read_of(&record[..bytes]);
+fn answer(bytes: &[u8], decodes: bool) {
+    if decodes {
+        decoding::answer(record::block::decode(bytes));
+    } else {
+        read_of(bytes);
     }
 }
 
-// The same for a decoding.
-pub(crate) fn record(line: &[u8]) {
+// The record is read, or decoded. Number 0 of the line is how many of its bytes are given.
+pub(crate) fn record(line: &[u8], decodes: bool) {
     let record = given::changed(line);
     let bytes = line::number(line, 0) as usize;
     if bytes <= 146 {
-        decoding::answer(record::block::decode(&record[..bytes]));
+        answer(&record[..bytes], decodes);
     }
 }

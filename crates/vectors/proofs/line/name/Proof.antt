@@ -6,31 +6,31 @@ use Rattle.vectors.proofs.line.name.Statement.{statement}
 use Rattle.vectors.proofs.line.name.Tie as tie
 
 abbrev Inv-loop : tie.InvT-loop
-Inv-loop line names name₀ i₀ name i = i ≤ length names
+Inv-loop line names passed₀ place₀ same₀ i₀ passed place same i = i ≤ length names
 
 abbrev μ-loop : tie.MeasureT-loop
-μ-loop line names name₀ i₀ name i = length names - i
+μ-loop line names passed₀ place₀ same₀ i₀ passed place same i = length names - i
 
 loop-holds : tie.Need-loop-holds Inv-loop μ-loop
 loop-holds c = search needs
 
-shared-slice-read-step : tie.Need-shared-slice-read-step Inv-loop μ-loop
-shared-slice-read-step c = search needs
+shared-slice-read-if1 : tie.Need-shared-slice-read-if1 Inv-loop μ-loop
+shared-slice-read-if1 c = search needs
 
 at-requires : tie.Need-at-requires Inv-loop μ-loop
 at-requires c κs = search needs
 
-step-requires : tie.Need-step-requires Inv-loop μ-loop
-step-requires c κs = search needs
+wrapping-add-usize-requires : tie.Need-wrapping-add-usize-requires Inv-loop μ-loop
+wrapping-add-usize-requires c κs = search needs
 
-shared-slice-read-if1 : tie.Need-shared-slice-read-if1 Inv-loop μ-loop
-shared-slice-read-if1 c = search needs
+shared-slice-read-if2 : tie.Need-shared-slice-read-if2 Inv-loop μ-loop
+shared-slice-read-if2 c = search needs
 
 returns : tie.Need-returns Inv-loop μ-loop
 returns c = search needs
 
-next-requires : tie.Need-next-requires Inv-loop μ-loop
-next-requires c κs = search needs
+wrapping-add-usize-requires-2 : tie.Need-wrapping-add-usize-requires-2 Inv-loop μ-loop
+wrapping-add-usize-requires-2 c κs = search needs
 
 add-i : tie.Need-add-i Inv-loop μ-loop
 add-i c = search needs
@@ -51,12 +51,12 @@ name-spec =
     Inv-loop
     μ-loop
     loop-holds
-    shared-slice-read-step
-    at-requires
-    step-requires
     shared-slice-read-if1
+    at-requires
+    wrapping-add-usize-requires
+    shared-slice-read-if2
     returns
-    next-requires
+    wrapping-add-usize-requires-2
     add-i
     loop-less
     loop-again

@@ -15,11 +15,8 @@ number-requires c κs = search needs
 array-share-prefix-record : tie.Need-array-share-prefix-record
 array-share-prefix-record c = search needs
 
-slice-aggregate-decode : tie.Need-slice-aggregate-decode
-slice-aggregate-decode c = sym (length-take-le _ _ (omega arith))
-
-decode-requires : tie.Need-decode-requires
-decode-requires c κs = search needs
+slice-aggregate-answer : tie.Need-slice-aggregate-answer
+slice-aggregate-answer c = sym (length-take-le _ _ (omega arith))
 
 answer-requires : tie.Need-answer-requires
 answer-requires c κs = search needs
@@ -37,8 +34,7 @@ record-spec =
     changed-requires
     number-requires
     array-share-prefix-record
-    slice-aggregate-decode
-    decode-requires
+    slice-aggregate-answer
     answer-requires
     returns
     returns-2)
