@@ -1,5 +1,6 @@
 // A code by its n and its mask: the constructor and the guard.
 use crate::line;
+use crate::words;
 use code::Code;
 use code::Guard;
 use code::Made;
@@ -24,8 +25,8 @@ pub(crate) fn new(line: &[u8]) {
 
 pub(crate) fn guard(line: &[u8]) {
     match given(line).guard() {
-        Guard::Guard(figure) => printing::number(b" -> ", figure as u64),
-        Guard::NoGuard => printing::say(b" -> none"),
+        Guard::Guard(figure) => words::counted(figure as u64),
+        Guard::NoGuard => words::none(),
         Guard::Refused(r) => printing::refused(r),
     }
 }

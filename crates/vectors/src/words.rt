@@ -7,8 +7,12 @@ fn came(w: Word) {
     printing::hex(b" -> 0x", w);
 }
 
-fn counted(count: u64) {
+pub(crate) fn counted(count: u64) {
     printing::number(b" -> ", count);
+}
+
+pub(crate) fn none() {
+    printing::say(b" -> none");
 }
 
 fn said(yes: bool) {
@@ -22,7 +26,7 @@ fn said(yes: bool) {
 fn fewest_ones(n: u32, frozen: Word) {
     match word::count::fewest_ones(n, frozen) {
         Fewest::Ones(w) => counted(w as u64),
-        Fewest::NoIndex => printing::say(b" -> none"),
+        Fewest::NoIndex => none(),
     }
 }
 
