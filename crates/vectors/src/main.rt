@@ -14,12 +14,8 @@ mod records;
 mod samples;
 mod words;
 
-// What came.
-fn answer(line: &[u8]) {
-    let name = line::name(
-        line,
-        b"new guard encode encode_levels decode level new_assembler take give read record found_line refused_line lines ",
-    );
+// What came of a call, by its number in the list of names.
+fn answer(line: &[u8], name: usize) {
     match name {
         0 => codes::new(line),
         1 => codes::guard(line),
@@ -43,7 +39,11 @@ fn answer(line: &[u8]) {
 fn case(line: &[u8]) {
     if line::at(line, 0) != b'#' {
         printing::say(line);
-        answer(line);
+        let name = line::name(
+            line,
+            b"new guard encode encode_levels decode level new_assembler take give read record found_line refused_line lines ",
+        );
+        answer(line, name);
         printing::end();
     }
 }

@@ -39,15 +39,8 @@ fn copies(w: Word, b: Word) {
     }
 }
 
-pub(crate) fn answer(line: &[u8]) {
-    let n = line::small(line, 0);
-    let a = line::number(line, 0);
-    let b = line::number(line, 1);
-    let c = line::number(line, 2);
-    let name = line::name(
-        line,
-        b"bit reaches xor common less map spread gather ones folding_size unfrozen fewest_ones slots wrong_size above copies ",
-    );
+// A call by its number in the list of names, with the numbers of its line; the first of them as an n too.
+fn called(name: usize, n: u32, a: Word, b: Word, c: Word) {
     match name {
         0 => counted(word::bit(a, b as usize) as u64),
         1 => said(word::count::reaches(a, b as usize)),
@@ -66,4 +59,18 @@ pub(crate) fn answer(line: &[u8]) {
         14 => came(word::place::above(a, b as usize)),
         _ => copies(a, b),
     }
+}
+
+pub(crate) fn answer(line: &[u8]) {
+    let name = line::name(
+        line,
+        b"bit reaches xor common less map spread gather ones folding_size unfrozen fewest_ones slots wrong_size above copies ",
+    );
+    called(
+        name,
+        line::small(line, 0),
+        line::number(line, 0),
+        line::number(line, 1),
+        line::number(line, 2),
+    );
 }
