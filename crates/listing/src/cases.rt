@@ -20,10 +20,8 @@ fn mask(n: u32, number: u64) -> u64
     if n < 4 { number } else { levels::mask(number) }
 }
 
-// The line of a folding.
-fn say_folding(n: u32, folding: u32, tally: Tally) {
-    printing::number(b"n=", n as u64);
-    printing::number(b" folding=", folding as u64);
+// How many cases were compared and how many differ, and the end of the line.
+pub(crate) fn say_tally(tally: Tally) {
     printing::number(b" compared=", tally.compared);
     printing::number(b" different=", tally.different);
     printing::end();
@@ -58,7 +56,8 @@ fn permitted(n: u32, folding: u32, masks: u64) -> Tally
         };
     }
     let tally = folded(n, folding, masks);
-    say_folding(n, folding, tally);
+    compare::say_folding(n, folding);
+    say_tally(tally);
     tally
 }
 

@@ -43,10 +43,16 @@ pub(crate) fn slots(n: u32) -> usize
     }
 }
 
+// A size and a folding.
+pub(crate) fn say_folding(n: u32, folding: u32) {
+    printing::number(b"n=", n as u64);
+    printing::number(b" folding=", folding as u64);
+}
+
 // The line of a case that differs.
 fn say_case(n: u32, folding: u32, frozen: u64, block: u64) {
-    printing::number(b"differs: n=", n as u64);
-    printing::number(b" folding=", folding as u64);
+    printing::say(b"differs: ");
+    say_folding(n, folding);
     printing::hex(b" mask=0x", frozen);
     printing::number(b" block=", block);
     printing::end();

@@ -40,6 +40,24 @@ pub fn level(z: i32) {
     io::print_decimal(STDOUT_FILENO, magnitude(z));
 }
 
+// A level of a list, the first without a comma.
+fn item(i: usize, z: i32) {
+    if 0 < i {
+        say(b",");
+    }
+    level(z);
+}
+
+// A list of levels.
+pub fn levels(levels: &[i32]) {
+    say(b" levels=");
+    let mut i = 0;
+    while i < levels.len() {
+        item(i, levels[i]);
+        i += 1;
+    }
+}
+
 // A refusal by its number, and the slot, level or sample that it names.
 pub fn refused(r: Refusal) {
     number(b" -> refused ", refusal::number(r) as u64);

@@ -1,6 +1,7 @@
 // The records that are given: the first of document 01's three with changes, and the three one after the other.
 ghost use mathlib.Core.Path.{_≡_};
 ghost use lib.ListN.{length};
+use crate::line;
 
 // The first record: n = 3, folding 0, allowance 100, mask 0x05, levels 256 twice, -256 six times and then zeros. Two bytes of 255
 // stand behind it.
@@ -24,40 +25,29 @@ fn base() -> [u8; 146]
     bytes
 }
 
-// One change.
-fn change(bytes: &mut [u8], place: u8, value: u8) {
-    let place = place as usize;
-    if place < bytes.len() {
-        bytes[place] = value;
+// One change, where the line has it: its place and its value are these numbers of the line.
+fn change(bytes: &mut [u8], line: &[u8], place: usize, value: usize) {
+    let changes = line::has(line, value);
+    let place = line::number(line, place) as usize;
+    let value = line::number(line, value);
+    if changes {
+        if place < bytes.len() {
+            if value < 256 {
+                bytes[place] = value as u8;
+            }
+        }
     }
 }
 
-// The first record with changes: a place and a value in turn.
-pub(crate) fn changed(changes: &[u8]) -> [u8; 146]
+// The first record with up to three changes: from number 1 of the line on a place and a value in turn.
+pub(crate) fn changed(line: &[u8]) -> [u8; 146]
     ensures { λ r. ⌜ 146 ≡ length r ⌝ }
 {
     let mut bytes = base();
-    let mut i = 1;
-    while i < changes.len() {
-        change(&mut bytes, changes[i - 1], changes[i]);
-        i += 2;
-    }
+    change(&mut bytes, line, 1, 2);
+    change(&mut bytes, line, 3, 4);
+    change(&mut bytes, line, 5, 6);
     bytes
-}
-
-fn say_change(place: u8, value: u8) {
-    printing::number(b" [", place as u64);
-    printing::number(b"]=", value as u64);
-}
-
-// How many bytes are given, and the changes.
-pub(crate) fn say_changes(bytes: usize, changes: &[u8]) {
-    printing::number(b" bytes=", bytes as u64);
-    let mut i = 1;
-    while i < changes.len() {
-        say_change(changes[i - 1], changes[i]);
-        i += 2;
-    }
 }
 
 // The three records, the second with allowance 13 and the third with folding 8, and 48 bytes of 255 behind them.

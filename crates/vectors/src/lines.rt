@@ -1,18 +1,15 @@
 // The line of an answer, and the lines of a piece of records.
 ghost use Prim.Native.Nat.{_≤_};
 use crate::given;
+use crate::line;
 use record::piece::Written;
 use record::text::Line;
 use refusal::Refusal;
-use word::Word;
 
 // A byte of a text: '/' for a newline.
 fn byte(b: u8) {
-    if b == b'\n' {
-        printing::say(b"/");
-    } else {
-        printing::say(&[b]);
-    }
+    let shown = if b == b'\n' { b'/' } else { b };
+    printing::say(&[shown]);
 }
 
 // A text after a space, and nothing where it is empty.
@@ -35,21 +32,41 @@ fn came(line: Line) {
     if len <= 56 {
         shown(&bytes[..len]);
     }
-    printing::end();
 }
 
-fn found_case(number: u32, message: Word, distance: u32, visits: u32) {
-    printing::number(b"found_line number=", number as u64);
-    printing::hex(b" message=0x", message);
-    printing::number(b" distance=", distance as u64);
-    printing::number(b" visits=", visits as u64);
-    came(record::text::found_line(number, message, distance, visits));
+pub(crate) fn found_line(line: &[u8]) {
+    let distance = line::small(line, 2);
+    let visits = line::small(line, 3);
+    came(record::text::found_line(
+        line::small(line, 0),
+        line::number(line, 1),
+        distance,
+        visits,
+    ));
 }
 
-fn refused_case(number: u32, refusal: Refusal) {
-    printing::number(b"refused_line number=", number as u64);
-    printing::number(b" refusal=", refusal::number(refusal) as u64);
-    came(record::text::refused_line(number, refusal));
+// A refusal by its number; what it names does not go into the line.
+fn refusal(number: u32) -> Refusal {
+    match number {
+        1 => Refusal::Size,
+        2 => Refusal::Length,
+        3 => Refusal::Mask,
+        4 => Refusal::Folding,
+        5 => Refusal::WideFolding,
+        6 => Refusal::Range(0),
+        7 => Refusal::NoCandidate(0),
+        8 => Refusal::Allowance,
+        9 => Refusal::Message,
+        10 => Refusal::NoRoom,
+        11 => Refusal::NotFinite(0),
+        12 => Refusal::NotZero,
+        13 => Refusal::Short,
+        _ => Refusal::NotFull,
+    }
+}
+
+pub(crate) fn refused_line(line: &[u8]) {
+    came(record::text::refused_line(line::small(line, 0), refusal(line::small(line, 1))));
 }
 
 // 1 for a byte of the buffer that is as it was before the call, and 0 for any other.
@@ -82,126 +99,14 @@ fn lines_of(bytes: &[u8], number: u32, out: &mut [u8]) {
 }
 
 // The first bytes of the three records, and a buffer of that room, each byte 7 before the call.
-fn lines_case(number: u32, bytes: usize, room: usize) {
-    printing::number(b"lines number=", number as u64);
-    printing::number(b" bytes=", bytes as u64);
-    printing::number(b" room=", room as u64);
+pub(crate) fn lines(line: &[u8]) {
     let given = given::three();
     let mut out = [7u8; 300];
+    let bytes = line::number(line, 1) as usize;
+    let room = line::number(line, 2) as usize;
     if bytes <= 480 {
         if room <= 300 {
-            lines_of(&given[..bytes], number, &mut out[..room]);
+            lines_of(&given[..bytes], line::small(line, 0), &mut out[..room]);
         }
     }
-    printing::end();
-}
-
-// The least and the greatest of each number.
-fn both_ends() {
-    found_case(0, 0x0, 0, 0);
-    found_case(4294967295, 0xffffffffffffffff, 4294967295, 4294967295);
-}
-
-// One digit more in one number, and then in the next.
-fn digits() {
-    found_case(0, 0x123456789abcdef, 9999, 9999999);
-    found_case(9, 0xfedcba9876543210, 10000, 10000000);
-    found_case(10, 0x1, 99999, 99999999);
-    found_case(99, 0x8000000000000000, 100000, 100000000);
-    found_case(100, 0xf, 999999, 999999999);
-    found_case(999, 0x10, 1000000, 1000000000);
-    found_case(1000, 0xabcdef, 9999999, 4294967295);
-    found_case(9999, 0xa000000000000009, 10000000, 0);
-    found_case(10000, 0x0, 99999999, 9);
-    found_case(99999, 0xffffffffffffffff, 100000000, 10);
-    found_case(100000, 0x123456789abcdef, 999999999, 99);
-    found_case(999999, 0xfedcba9876543210, 1000000000, 100);
-    found_case(1000000, 0x1, 4294967295, 999);
-    found_case(9999999, 0x8000000000000000, 0, 1000);
-    found_case(10000000, 0xf, 9, 9999);
-    found_case(99999999, 0x10, 10, 10000);
-    found_case(100000000, 0xabcdef, 99, 99999);
-    found_case(999999999, 0xa000000000000009, 100, 100000);
-    found_case(1000000000, 0x0, 999, 999999);
-    found_case(4294967295, 0xffffffffffffffff, 1000, 1000000);
-}
-
-// Every count of decimal digits, and every hexadecimal digit.
-pub(crate) fn found_line() {
-    both_ends();
-    digits();
-}
-
-// Each refusal, and the greatest record number.
-pub(crate) fn refused_line() {
-    refused_case(0, Refusal::Size);
-    refused_case(0, Refusal::Length);
-    refused_case(0, Refusal::Mask);
-    refused_case(0, Refusal::Folding);
-    refused_case(0, Refusal::WideFolding);
-    refused_case(0, Refusal::Range(0));
-    refused_case(0, Refusal::NoCandidate(0));
-    refused_case(0, Refusal::Allowance);
-    refused_case(0, Refusal::Message);
-    refused_case(0, Refusal::NoRoom);
-    refused_case(0, Refusal::NotFinite(0));
-    refused_case(0, Refusal::NotZero);
-    refused_case(0, Refusal::Short);
-    refused_case(0, Refusal::NotFull);
-    refused_case(4294967295, Refusal::Size);
-    refused_case(4294967295, Refusal::NotFull);
-}
-
-// Whole records and short last ones, with the least room.
-fn pieces() {
-    lines_case(0, 0, 56);
-    lines_case(9, 1, 56);
-    lines_case(0, 143, 56);
-    lines_case(0, 144, 112);
-    lines_case(9, 145, 112);
-    lines_case(0, 287, 112);
-    lines_case(0, 288, 168);
-    lines_case(0, 289, 168);
-    lines_case(0, 431, 168);
-    lines_case(9, 432, 224);
-    lines_case(0, 433, 224);
-    lines_case(0, 480, 224);
-}
-
-// One byte less.
-fn no_room() {
-    lines_case(0, 0, 55);
-    lines_case(0, 143, 55);
-    lines_case(0, 144, 111);
-    lines_case(0, 287, 111);
-    lines_case(0, 288, 167);
-    lines_case(0, 431, 167);
-    lines_case(0, 432, 223);
-    lines_case(0, 480, 223);
-}
-
-// No room at all, and more than is asked for.
-fn rooms() {
-    lines_case(0, 0, 0);
-    lines_case(0, 432, 300);
-    lines_case(9, 480, 300);
-}
-
-// The last record numbers.
-fn last_numbers() {
-    lines_case(4294967293, 480, 224);
-    lines_case(4294967293, 145, 113);
-    lines_case(4294967294, 432, 224);
-    lines_case(4294967294, 1, 56);
-    lines_case(4294967295, 432, 224);
-    lines_case(4294967295, 432, 223);
-    lines_case(4294967295, 1, 60);
-}
-
-// The lines of pieces of document 01's three records.
-pub(crate) fn lines() {
-    pieces();
-    no_room();
-    rooms();
-    last_numbers();
 }

@@ -7,10 +7,10 @@ use Rattle.vectors.proofs.assembling.given.Statement.{statement}
 use Rattle.vectors.proofs.assembling.given.Tie as tie
 
 abbrev Inv-loop : tie.InvT-loop
-Inv-loop n filled levels₀ i₀ levels i = (i ≤ 64) × (64 ≡ length levels)
+Inv-loop line levels₀ i₀ levels i = (i ≤ 64) × (64 ≡ length levels)
 
 abbrev μ-loop : tie.MeasureT-loop
-μ-loop n filled levels₀ i₀ levels i = 64 - i
+μ-loop line levels₀ i₀ levels i = 64 - i
 
 loop-holds : tie.Need-loop-holds Inv-loop μ-loop
 loop-holds c = search needs
@@ -36,6 +36,12 @@ loop-less c = search needs
 loop-again : tie.Need-loop-again Inv-loop μ-loop
 loop-again c = search needs
 
+small-requires : tie.Need-small-requires Inv-loop μ-loop
+small-requires c κs = search needs
+
+number-requires : tie.Need-number-requires Inv-loop μ-loop
+number-requires c κs = search needs
+
 returns : tie.Need-returns Inv-loop μ-loop
 returns c = search needs
 
@@ -53,4 +59,6 @@ given-spec =
     add-i
     loop-less
     loop-again
+    small-requires
+    number-requires
     returns)

@@ -36,9 +36,6 @@ slice-aggregate-levels c =
 levels-requires : tie.Need-levels-requires
 levels-requires c κs = search needs
 
-end-requires : tie.Need-end-requires
-end-requires c κs = search needs
-
 returns : tie.Need-returns
 returns c = search needs
 
@@ -52,5 +49,4 @@ handed-spec =
     array-share-prefix-levels
     slice-aggregate-levels
     levels-requires
-    end-requires
     returns)

@@ -26,11 +26,11 @@ slice-aggregate-shown c =
 shown-requires : tie.Need-shown-requires
 shown-requires c κs = search needs
 
-end-requires : tie.Need-end-requires
-end-requires c κs = search needs
-
 returns : tie.Need-returns
 returns c = search needs
+
+returns-2 : tie.Need-returns-2
+returns-2 c = search needs
 
 pub came-spec : {M : Type 1} → statement M
 came-spec =
@@ -41,5 +41,5 @@ came-spec =
     array-share-prefix-bytes
     slice-aggregate-shown
     shown-requires
-    end-requires
-    returns)
+    returns
+    returns-2)

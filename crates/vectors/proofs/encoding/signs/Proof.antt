@@ -1,9 +1,9 @@
--- `vectors::encoding::levels` is safe and ends.
+-- `vectors::encoding::signs` is safe and ends.
 use Prim.Native.Nat.{_≤_, _-_}
 use lib.ListN.{length}
 use borrow.Author.Needs.{needs}
-use Rattle.vectors.proofs.encoding.levels.Statement.{statement}
-use Rattle.vectors.proofs.encoding.levels.Tie as tie
+use Rattle.vectors.proofs.encoding.signs.Statement.{statement}
+use Rattle.vectors.proofs.encoding.signs.Tie as tie
 
 abbrev Inv-loop : tie.InvT-loop
 Inv-loop levels i₀ i = i ≤ length levels
@@ -20,14 +20,14 @@ say-requires c κs = search needs
 loop-holds : tie.Need-loop-holds Inv-loop μ-loop
 loop-holds c = search needs
 
-mul-level : tie.Need-mul-level Inv-loop μ-loop
-mul-level c = search needs
+mul-sign : tie.Need-mul-sign Inv-loop μ-loop
+mul-sign c = search needs
 
-shared-slice-copy-out-level : tie.Need-shared-slice-copy-out-level Inv-loop μ-loop
-shared-slice-copy-out-level c = search needs
+shared-slice-copy-out-sign : tie.Need-shared-slice-copy-out-sign Inv-loop μ-loop
+shared-slice-copy-out-sign c = search needs
 
-level-requires : tie.Need-level-requires Inv-loop μ-loop
-level-requires c κs = search needs
+sign-requires : tie.Need-sign-requires Inv-loop μ-loop
+sign-requires c κs = search needs
 
 add-i : tie.Need-add-i Inv-loop μ-loop
 add-i c = search needs
@@ -41,8 +41,8 @@ loop-again c = search needs
 returns : tie.Need-returns Inv-loop μ-loop
 returns c = search needs
 
-pub levels-spec : {M : Type 1} → statement M
-levels-spec =
+pub signs-spec : {M : Type 1} → statement M
+signs-spec =
     tie.close
     (tie.spec
     Inv-loop
@@ -50,9 +50,9 @@ levels-spec =
     slice-aggregate-say
     say-requires
     loop-holds
-    mul-level
-    shared-slice-copy-out-level
-    level-requires
+    mul-sign
+    shared-slice-copy-out-sign
+    sign-requires
     add-i
     loop-less
     loop-again

@@ -1,9 +1,9 @@
--- `vectors::text::levels` is safe and ends.
+-- `printing::levels` is safe and ends.
 use Prim.Native.Nat.{_≤_, _-_}
 use lib.ListN.{length}
 use borrow.Author.Needs.{needs}
-use Rattle.vectors.proofs.text.levels.Statement.{statement}
-use Rattle.vectors.proofs.text.levels.Tie as tie
+use Rattle.printing.proofs.levels.Statement.{statement}
+use Rattle.printing.proofs.levels.Tie as tie
 
 abbrev Inv-loop : tie.InvT-loop
 Inv-loop levels i₀ i = i ≤ length levels

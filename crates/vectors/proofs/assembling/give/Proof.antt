@@ -1,10 +1,13 @@
--- `vectors::assembling::give_case` is safe and ends.
+-- `vectors::assembling::give` is safe and ends.
 use mathlib.Core.Path.{sym}
 use native.Mathlib.Omega.{arith}
 use lib.Seq.{length-take-le}
 use borrow.Author.Needs.{needs}
-use Rattle.vectors.proofs.assembling.give_case.Statement.{statement}
-use Rattle.vectors.proofs.assembling.give_case.Tie as tie
+use Rattle.vectors.proofs.assembling.give.Statement.{statement}
+use Rattle.vectors.proofs.assembling.give.Tie as tie
+
+number-requires : tie.Need-number-requires
+number-requires c κs = search needs
 
 array-borrow-prefix-slice : tie.Need-array-borrow-prefix-slice
 array-borrow-prefix-slice c = search needs
@@ -21,7 +24,13 @@ returns c = search needs
 returns-2 : tie.Need-returns-2
 returns-2 c = search needs
 
-pub give-case-spec : {M : Type 1} → statement M
-give-case-spec =
+pub give-spec : {M : Type 1} → statement M
+give-spec =
     tie.close
-    (tie.spec array-borrow-prefix-slice slice-aggregate-give-in give-in-requires returns returns-2)
+    (tie.spec
+    number-requires
+    array-borrow-prefix-slice
+    slice-aggregate-give-in
+    give-in-requires
+    returns
+    returns-2)
