@@ -1,25 +1,30 @@
+-- `rows::first::first_row` meets its contract.
+use Prim.Native.Nat.{min}
+use mathlib.Core.Path.{_≡_}
+use native.Mathlib.Omega.{arith}
 use Rattle.rows.proofs.first.first_row.Statement.{statement}
 use Rattle.rows.proofs.first.first_row.Tie as tie
-use Rattle.rows.proofs.first.first_row.Reads as reads
-use Rattle.rows.proofs.first.first_row.Lts as lts
-use Rattle.rows.proofs.first.one_slot.Reads as one-slot-reads
-use Rattle.rows.proofs.first.two_slots.Reads as two-slots-reads
 
--- src/first.rt:77:9
 one-slot-requires : tie.Need-one-slot-requires
-one-slot-requires c κs = ?
+one-slot-requires c κs = 
+    let s = c .before .before in
+    let one = c .before .if1 .taken in
+    ((s .pre .0 .0, rw one at (s .pre .0 .1)), (omega arith, s .pre .1 .2, s .pre .1 .3))
 
--- src/first.rt:78:9
 returns : tie.Need-returns
-returns c = ?
+returns c = rw (c .before .before .if1 .taken) (c .one-slot .ensures)
 
--- src/first.rt:80:5
 two-slots-requires : tie.Need-two-slots-requires
-two-slots-requires c κs = ?
+two-slots-requires c κs = 
+    let s = c .before .before in
+    let two : min (s .args .size) 2 ≡ 2 = omega (arith, s .pre .1 .0, c .before .if1 .left) in
+    ((s .pre .0 .0, rw two at (s .pre .0 .1)), (omega arith, s .pre .1 .2, s .pre .1 .3))
 
--- src/first.rt:71:1
 returns-2 : tie.Need-returns-2
-returns-2 c = ?
+returns-2 c = 
+    let s = c .before .before .before in
+    let two : min (s .args .size) 2 ≡ 2 = omega (arith, s .pre .1 .0, c .before .before .if1 .left) in
+    rw two (c .two-slots .ensures)
 
 pub first-row-spec : {M : Type 1} → statement M
 first-row-spec = tie.close (tie.spec one-slot-requires returns two-slots-requires returns-2)

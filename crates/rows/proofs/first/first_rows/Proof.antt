@@ -1,50 +1,60 @@
+-- `rows::first::first_rows` meets its contract: before each turn the groups before k have their rows.
+use Prim.Native.Nat.{_-_, _≤_, min}
+use mathlib.Core.Path.{_≡_}
+use native.Mathlib.Omega.{arith}
+use borrow.Author.Needs.{needs}
+use Rattle.rows.specs.Cells.{Filled}
+use Rattle.rows.proofs.Filling.{place-room, filled-none, filled-more}
+use Rattle.rows.proofs.Places.{place, size-some, size-small, entries-shifted}
 use Rattle.rows.proofs.first.first_rows.Statement.{statement}
 use Rattle.rows.proofs.first.first_rows.Tie as tie
-use Rattle.rows.proofs.first.first_rows.Reads as reads
-use Rattle.rows.proofs.first.first_rows.Lts as lts
-use Rattle.rows.proofs.first.first_row.Reads as first-row-reads
 
 abbrev Inv-loop : tie.InvT-loop
-Inv-loop table₀ zero one group last size entries k₀ table k = ?
+Inv-loop table₀ zero one group last size entries k₀ table k = (group ≤ k) × (k ≤ last) × Filled zero one size (min size 2) group k table₀ table
 
 abbrev μ-loop : tie.MeasureT-loop
-μ-loop table₀ zero one group last size entries k₀ table k = ?
+μ-loop table₀ zero one group last size entries k₀ table k = last - k
 
--- src/first.rt:89:26
 shl-entries : tie.Need-shl-entries Inv-loop μ-loop
-shl-entries c = ?
+shl-entries c = omega (arith, size-small (c .pre .1))
 
--- src/first.rt:91:5
 loop-holds : tie.Need-loop-holds Inv-loop μ-loop
-loop-holds c = ?
+loop-holds c = (omega arith, c .pre .4, filled-none _ _ (c .pre .0))
 
--- src/first.rt:92:26
 mul-first-row : tie.Need-mul-first-row Inv-loop μ-loop
-mul-first-row c = ?
+mul-first-row c = 
+    let g = c .before .before .before .pre .1 in
+    rw (entries-shifted g) (record { fits = omega (arith, place g (c .before .loop-test .taken) .start) })
 
--- src/first.rt:92:50
 mul-first-row-2 : tie.Need-mul-first-row-2 Inv-loop μ-loop
-mul-first-row-2 c = ?
+mul-first-row-2 c = record { fits = omega (arith, place (c .before .before .before .pre .1) (c .before .loop-test .taken) .seats) }
 
--- src/first.rt:92:9
 first-row-requires : tie.Need-first-row-requires Inv-loop μ-loop
-first-row-requires c κs = ?
+first-row-requires c κs = 
+    let s = c .before .before .before in
+    let g = s .pre .1 in
+    let less = c .before .loop-test .taken in
+    rw (entries-shifted g) (
+      (c .before .before .loop .inv .2 .shaped, place-room g less (omega arith)),
+      (size-some g, place g less .seats, s .pre .2, s .pre .3),
+    )
 
--- src/first.rt:93:9
 add-k : tie.Need-add-k Inv-loop μ-loop
-add-k c = ?
+add-k c = search needs
 
--- src/first.rt:91:5
 loop-less : tie.Need-loop-less Inv-loop μ-loop
-loop-less c = ?
+loop-less c = search needs
 
--- src/first.rt:91:5
 loop-again : tie.Need-loop-again Inv-loop μ-loop
-loop-again c = ?
+loop-again c = 
+    let l = c .before .before .before .loop in
+    let s = c .before .before .before .before in
+    (omega arith, omega arith, filled-more (l .inv .2) (l .inv .0) (omega arith) (rw (entries-shifted (s .pre .1)) at (c .first-row .ensures)))
 
--- src/first.rt:84:1
 returns : tie.Need-returns Inv-loop μ-loop
-returns c = ?
+returns c = 
+    let all : c .before .loop .k ≡ c .before .before .args .last = omega arith in
+    rw all at (c .before .loop .inv .2)
 
 pub first-rows-spec : {M : Type 1} → statement M
 first-rows-spec =

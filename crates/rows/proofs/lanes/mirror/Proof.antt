@@ -1,59 +1,60 @@
+-- `rows::lanes::mirror` meets its contract: each turn stores what is left to the sum.
+use Prim.Native.Nat.{_-_, _≤_}
+use mathlib.Core.Path.{_≡_}
+use native.Mathlib.Omega.{arith}
+use borrow.Author.Needs.{needs}
+use Rattle.rows.specs.Lanes.{Completed}
+use Rattle.rows.proofs.LaneMirrors.{completed-none, lower-same, completed-more}
 use Rattle.rows.proofs.lanes.mirror.Statement.{statement}
 use Rattle.rows.proofs.lanes.mirror.Tie as tie
-use Rattle.rows.proofs.lanes.mirror.Reads as reads
-use Rattle.rows.proofs.lanes.mirror.Lts as lts
-use Rattle.rows.proofs.table.entry.Reads as entry-reads
-use Rattle.rows.proofs.table.store.Reads as store-reads
 
 abbrev Inv-loop : tie.InvT-loop
-Inv-loop to₀ start m both t₀ to t = ?
+Inv-loop to₀ start m both t₀ to t = (t ≤ m) × Completed to₀ start m both to t
 
 abbrev μ-loop : tie.MeasureT-loop
-μ-loop to₀ start m both t₀ to t = ?
+μ-loop to₀ start m both t₀ to t = m - t
 
--- src/lanes.rt:61:5
 loop-holds : tie.Need-loop-holds Inv-loop μ-loop
-loop-holds c = ?
+loop-holds c = (omega arith, completed-none _ _ _ (c .pre .0 .0))
 
--- src/lanes.rt:62:26
 add-store : tie.Need-add-store Inv-loop μ-loop
-add-store c = ?
+add-store c = search needs
 
--- src/lanes.rt:62:26
 sub-store : tie.Need-sub-store Inv-loop μ-loop
-sub-store c = ?
+sub-store c = search needs
 
--- src/lanes.rt:62:26
 sub-store-2 : tie.Need-sub-store-2 Inv-loop μ-loop
-sub-store-2 c = ?
+sub-store-2 c = search needs
 
--- src/lanes.rt:62:48
 entry-requires : tie.Need-entry-requires Inv-loop μ-loop
-entry-requires c κs = ?
+entry-requires c κs = search needs
 
--- src/lanes.rt:62:41
 sub-store-3 : tie.Need-sub-store-3 Inv-loop μ-loop
-sub-store-3 c = ?
+sub-store-3 c = 
+    let l = c .before .before .before .before .loop in
+    let less = c .before .before .before .loop-test .taken in
+    rw (c .entry .ensures, lower-same (l .inv .1) less) (c .before .before .before .before .before .pre .1 (l .t) less)
 
--- src/lanes.rt:62:9
 store-requires : tie.Need-store-requires Inv-loop μ-loop
-store-requires c κs = ?
+store-requires c κs = search needs
 
--- src/lanes.rt:63:9
 add-t : tie.Need-add-t Inv-loop μ-loop
-add-t c = ?
+add-t c = search needs
 
--- src/lanes.rt:61:5
 loop-less : tie.Need-loop-less Inv-loop μ-loop
-loop-less c = ?
+loop-less c = search needs
 
--- src/lanes.rt:61:5
 loop-again : tie.Need-loop-again Inv-loop μ-loop
-loop-again c = ?
+loop-again c = 
+    let test = c .before .before .before .before in
+    let l = test .before .loop in
+    let room = test .before .before .pre .0 .1 in
+    (omega arith, rw (c .store .ensures, c .before .entry .ensures) (completed-more (l .inv .1) (test .loop-test .taken) (omega (arith, room .inside, room .edge))))
 
--- src/lanes.rt:55:1
 returns : tie.Need-returns Inv-loop μ-loop
-returns c = ?
+returns c = 
+    let all : c .before .loop .t ≡ c .before .before .args .m = omega arith in
+    rw all at (c .before .loop .inv .1)
 
 pub mirror-spec : {M : Type 1} → statement M
 mirror-spec =
