@@ -44,12 +44,20 @@ pub record Mirroring (from : List (List ℕ)) (first entries m : ℕ) (zeros one
 
 module _ {from : List (List ℕ)} {first entries m : ℕ} {zeros ones : List ℕ} {old to : List (List ℕ)} where
   -- no upper half yet
-  pub mirroring-none : Merged from first entries m zeros ones old to m → Mirroring from first entries m zeros ones old to 0
-  mirroring-none h = record { lower = h; whole = λ j i l. absurd (omega arith) }
+  pub mirroring-none : Merged from first entries m zeros ones old to m → Mirroring from first entries m zeros ones to to 0
+  mirroring-none h = record {
+    lower = record { shaped = h .shaped; kept = λ p l. refl; stored = h .stored };
+    whole = λ j i l. absurd (omega arith);
+  }
 
   -- all of them
-  pub mirroring-all : {k : ℕ} → 4 ≤ k → Mirroring from first entries m zeros ones old to k → Merged from first entries m zeros ones old to (m + m)
-  mirroring-all l s = record { shaped = s .lower .shaped; kept = s .lower .kept; stored = λ k i h e. s .whole k i (omega arith) e }
+  pub mirroring-all : {n k : ℕ} → Merged from first entries m zeros ones old to n → 4 ≤ k → {new : List (List ℕ)}
+      → Mirroring from first entries m zeros ones to new k → Merged from first entries m zeros ones old new (m + m)
+  mirroring-all h l s = record {
+    shaped = s .lower .shaped;
+    kept = λ p b. s .lower .kept p b ∙ h .kept p b;
+    stored = λ k i b e. s .whole k i (omega arith) e;
+  }
 
   module _ (lanes : Lanes from first entries m zeros ones) {k : ℕ} (h : k < 4) (s : Mirroring from first entries m zeros ones old to k) where
     -- an entry of the lower half is not above the sum
