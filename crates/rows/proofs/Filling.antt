@@ -46,6 +46,10 @@ module _ {zeros ones : List ℕ} {size t first last : ℕ} {old table : List (Li
           let before : k < last = omega arith in
           r .same (k * 2 ^ size + j) (inl (omega (arith, place-before (2 ^ size) before, pow-mono few))) ∙ f .built k j low before l
 
+  -- what stands is stored, seen from now on
+  pub filled-now : Filled zeros ones size t first last old table → Filled zeros ones size t first last table table
+  filled-now f = record { shaped = f .shaped; kept = λ p l. refl; built = f .built }
+
   -- rows stored into a table that was kept so far
   pub filled-kept : Kept old (first * 2 ^ size) table → {new : List (List ℕ)} → Filled zeros ones size t first last table new
       → Filled zeros ones size t first last old new

@@ -28,6 +28,14 @@ module _ {groups size : ℕ} (g : Sized groups size) where
   place {k} l =
       by-size (λ (size : ℕ). groups * size ≤ 64 → Place size k) (λ h. omega arith) (λ h. omega arith) (λ h. omega arith) (λ h. omega arith) g (g .seats)
 
+  -- slot t of group k has a seat
+  pub seat-inside : {k t : ℕ} → k < groups → t < size → k * size + t < 64
+  seat-inside l h = omega (arith, place l .seats)
+
+  pub groups-few : groups ≤ 64
+  groups-few =
+      by-size (λ (size : ℕ). groups * size ≤ 64 → groups ≤ 64) (λ h. omega arith) (λ h. omega arith) (λ h. omega arith) (λ h. omega arith) g (g .seats)
+
   -- a group has one slot at least and 8 at most
   pub size-some : 1 ≤ size
   size-some = by-size (λ (size : ℕ). 1 ≤ size) (omega arith) (omega arith) (omega arith) (omega arith) g
