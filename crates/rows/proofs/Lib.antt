@@ -6,3 +6,4 @@ pub mod Filling
 pub mod LaneTurns
 pub mod LaneMirrors
 pub mod LaneRows
+pub mod Unique

@@ -41,7 +41,13 @@ fn slot_entries(zero: &[u32; 64], one: &[u32; 64], first: usize, t: usize) -> Or
 }
 
 // The row of one slot.
-fn one_slot(table: &mut [[u32; 256]; 8], start: usize, zero: &[u32; 64], one: &[u32; 64], first: usize)
+fn one_slot(
+    table: &mut [[u32; 256]; 8],
+    start: usize,
+    zero: &[u32; 64],
+    one: &[u32; 64],
+    first: usize,
+)
     requires { ⌜ Shaped (now table) × Room start 2 ⌝ }
     requires { ⌜ (first + 1 ≤ 64) × Small (now zero) × Small (now one) ⌝ }
     ensures { λ _. ⌜ Placed (now (table .entry)) start (rowOf (adds (now (zero .entry)) (now (one .entry)) first) 1) (now (table .exit)) ⌝ }
@@ -52,7 +58,13 @@ fn one_slot(table: &mut [[u32; 256]; 8], start: usize, zero: &[u32; 64], one: &[
 }
 
 // The row of two slots: the sums of their entries. Only the two in the middle are not in order by themselves.
-fn two_slots(table: &mut [[u32; 256]; 8], start: usize, zero: &[u32; 64], one: &[u32; 64], first: usize)
+fn two_slots(
+    table: &mut [[u32; 256]; 8],
+    start: usize,
+    zero: &[u32; 64],
+    one: &[u32; 64],
+    first: usize,
+)
     requires { ⌜ Shaped (now table) × Room start 4 ⌝ }
     requires { ⌜ (first + 2 ≤ 64) × Small (now zero) × Small (now one) ⌝ }
     ensures { λ _. ⌜ Placed (now (table .entry)) start (rowOf (adds (now (zero .entry)) (now (one .entry)) first) 2) (now (table .exit)) ⌝ }
@@ -67,7 +79,14 @@ fn two_slots(table: &mut [[u32; 256]; 8], start: usize, zero: &[u32; 64], one: &
 }
 
 // The row of a group's first slots: of its one, or else of two.
-fn first_row(table: &mut [[u32; 256]; 8], start: usize, zero: &[u32; 64], one: &[u32; 64], first: usize, size: usize)
+fn first_row(
+    table: &mut [[u32; 256]; 8],
+    start: usize,
+    zero: &[u32; 64],
+    one: &[u32; 64],
+    first: usize,
+    size: usize,
+)
     requires { ⌜ Shaped (now table) × Room start (2 ^ min size 2) ⌝ }
     requires { ⌜ (1 ≤ size) × (first + size ≤ 64) × Small (now zero) × Small (now one) ⌝ }
     ensures { λ _. ⌜ Placed (now (table .entry)) start (rowOf (adds (now (zero .entry)) (now (one .entry)) first) (min size 2)) (now (table .exit)) ⌝ }
@@ -80,7 +99,14 @@ fn first_row(table: &mut [[u32; 256]; 8], start: usize, zero: &[u32; 64], one: &
 }
 
 // Those rows for the groups from `group` to before `last`.
-pub(crate) fn first_rows(table: &mut [[u32; 256]; 8], zero: &[u32; 64], one: &[u32; 64], group: usize, last: usize, size: usize)
+pub(crate) fn first_rows(
+    table: &mut [[u32; 256]; 8],
+    zero: &[u32; 64],
+    one: &[u32; 64],
+    group: usize,
+    last: usize,
+    size: usize,
+)
     requires { ⌜ Shaped (now table) × Sized last size × Small (now zero) × Small (now one) × (group ≤ last) ⌝ }
     ensures { λ _. ⌜ Filled (now (zero .entry)) (now (one .entry)) size (min size 2) group last (now (table .entry)) (now (table .exit)) ⌝ }
 {

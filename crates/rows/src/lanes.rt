@@ -20,7 +20,15 @@ fn less(x: u32, y: u32) -> usize
 
 // One step of the merging in the lane that begins at `start`: of t entries a came with bit 0, and the smaller of the two next
 // ones goes to place t. No branch goes by the data.
-fn turn(from: &[[u32; 256]; 8], to: &mut [[u32; 256]; 8], start: usize, t: usize, a: usize, zero: u32, one: u32) -> usize
+fn turn(
+    from: &[[u32; 256]; 8],
+    to: &mut [[u32; 256]; 8],
+    start: usize,
+    t: usize,
+    a: usize,
+    zero: u32,
+    one: u32,
+) -> usize
     requires { ⌜ (a ≤ t) × Room start (t + 1) ⌝ }
     requires { ⌜ (cell (now from) (start + a) + zero < 2 ^ 32) × (cell (now from) (start + (t - a)) + one < 2 ^ 32) ⌝ }
     ensures { λ r. ⌜ Turned (now (from .entry)) start t a zero one (now (to .entry)) (now (to .exit)) r ⌝ }
@@ -32,7 +40,15 @@ fn turn(from: &[[u32; 256]; 8], to: &mut [[u32; 256]; 8], start: usize, t: usize
 }
 
 // The lower halves of the rows with one slot more: in each lane the first m entries once with `zero` and once with `one` added.
-fn merge_lanes(from: &[[u32; 256]; 8], to: &mut [[u32; 256]; 8], first: usize, entries: usize, m: usize, zero: &[u32; 4], one: &[u32; 4])
+fn merge_lanes(
+    from: &[[u32; 256]; 8],
+    to: &mut [[u32; 256]; 8],
+    first: usize,
+    entries: usize,
+    m: usize,
+    zero: &[u32; 4],
+    one: &[u32; 4],
+)
     requires { ⌜ Lanes (now from) first entries m (now zero) (now one) × Shaped (now to) ⌝ }
     ensures { λ _. ⌜ Merged (now (from .entry)) first entries m (now (zero .entry)) (now (one .entry)) (now (to .entry)) (now (to .exit)) m ⌝ }
 {
@@ -65,7 +81,15 @@ fn mirror(to: &mut [[u32; 256]; 8], start: usize, m: usize, both: u32)
 }
 
 // The rows with one slot more, whole.
-pub(crate) fn double_lanes(from: &[[u32; 256]; 8], to: &mut [[u32; 256]; 8], first: usize, entries: usize, m: usize, zero: &[u32; 4], one: &[u32; 4])
+pub(crate) fn double_lanes(
+    from: &[[u32; 256]; 8],
+    to: &mut [[u32; 256]; 8],
+    first: usize,
+    entries: usize,
+    m: usize,
+    zero: &[u32; 4],
+    one: &[u32; 4],
+)
     requires { ⌜ Lanes (now from) first entries m (now zero) (now one) × Shaped (now to) ⌝ }
     ensures { λ _. ⌜ Merged (now (from .entry)) first entries m (now (zero .entry)) (now (one .entry)) (now (to .entry)) (now (to .exit)) (m + m) ⌝ }
 {

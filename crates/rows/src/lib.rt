@@ -12,7 +12,15 @@ use crate::first::first_rows;
 use crate::lanes::double_lanes;
 
 // From the rows of the first t slots of four groups, those with slot t.
-fn add_slots(from: &[[u32; 256]; 8], to: &mut [[u32; 256]; 8], group: usize, size: usize, t: usize, zeros: &[u32; 64], ones: &[u32; 64])
+fn add_slots(
+    from: &[[u32; 256]; 8],
+    to: &mut [[u32; 256]; 8],
+    group: usize,
+    size: usize,
+    t: usize,
+    zeros: &[u32; 64],
+    ones: &[u32; 64],
+)
     requires { ⌜ (t < size) × Sized (group + 4) size × Small (now zeros) × Small (now ones) ⌝ }
     requires { ⌜ Shaped (now to) × Built (now zeros) (now ones) size t group (group + 4) (now from) ⌝ }
     ensures { λ _. ⌜ Filled (now (zeros .entry)) (now (ones .entry)) size (suc t) group (group + 4) (now (to .entry)) (now (to .exit)) ⌝ }
@@ -31,7 +39,14 @@ fn add_slots(from: &[[u32; 256]; 8], to: &mut [[u32; 256]; 8], group: usize, siz
 }
 
 // The rows of four groups. The first two slots at once, then two a turn: from the table to the spare one and back.
-fn four_rows(table: &mut [[u32; 256]; 8], spare: &mut [[u32; 256]; 8], group: usize, size: usize, zero: &[u32; 64], one: &[u32; 64])
+fn four_rows(
+    table: &mut [[u32; 256]; 8],
+    spare: &mut [[u32; 256]; 8],
+    group: usize,
+    size: usize,
+    zero: &[u32; 64],
+    one: &[u32; 64],
+)
     requires { ⌜ (2 < size) × Sized (group + 4) size × Small (now zero) × Small (now one) ⌝ }
     requires { ⌜ Shaped (now table) × Shaped (now spare) ⌝ }
     ensures spare { λ _. ⌜ Shaped (now (spare .exit)) ⌝ }

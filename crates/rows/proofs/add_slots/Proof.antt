@@ -25,35 +25,35 @@ add-seat : tie.Need-add-seat Inv-loop μ-loop
 add-seat c = record { fits = omega (arith, groups-few (c .before .before .pre .0 .1), c .loop-test .taken) }
 
 mul-seat : tie.Need-mul-seat Inv-loop μ-loop
-mul-seat c = 
+mul-seat c =
     let s = c .before .before in
     let less = c .loop-test .taken in
     let seat = seat-inside (s .pre .0 .1) {k = s .args .group + c .before .loop .k} (omega arith) (s .pre .0 .0) in
     record { fits = omega (arith, seat) }
 
 add-seat-2 : tie.Need-add-seat-2 Inv-loop μ-loop
-add-seat-2 c = 
+add-seat-2 c =
     let s = c .before .before in
     let less = c .loop-test .taken in
     let seat = seat-inside (s .pre .0 .1) {k = s .args .group + c .before .loop .k} (omega arith) (s .pre .0 .0) in
     record { fits = omega (arith, seat) }
 
 mul-zero : tie.Need-mul-zero Inv-loop μ-loop
-mul-zero c = 
+mul-zero c =
     let s = c .before .before in
     let less = c .loop-test .taken in
     let seat = seat-inside (s .pre .0 .1) {k = s .args .group + c .before .loop .k} (omega arith) (s .pre .0 .0) in
     record { fits = omega (arith, seat) }
 
 element-copy-out-zero : tie.Need-element-copy-out-zero Inv-loop μ-loop
-element-copy-out-zero c = 
+element-copy-out-zero c =
     let s = c .before .before in
     let less = c .loop-test .taken in
     let seat = seat-inside (s .pre .0 .1) {k = s .args .group + c .before .loop .k} (omega arith) (s .pre .0 .0) in
     seat
 
 mul-zero-2 : tie.Need-mul-zero-2 Inv-loop μ-loop
-mul-zero-2 c = 
+mul-zero-2 c =
     let test = c .before in
     let s = test .before .before in
     let less = test .loop-test .taken in
@@ -67,7 +67,7 @@ array-write-zero : tie.Need-array-write-zero Inv-loop μ-loop
 array-write-zero c = c .before .loop-test .taken
 
 mul-one : tie.Need-mul-one Inv-loop μ-loop
-mul-one c = 
+mul-one c =
     let test = c .before in
     let s = test .before .before in
     let less = test .loop-test .taken in
@@ -75,7 +75,7 @@ mul-one c =
     record { fits = omega (arith, seat) }
 
 element-copy-out-one : tie.Need-element-copy-out-one Inv-loop μ-loop
-element-copy-out-one c = 
+element-copy-out-one c =
     let test = c .before in
     let s = test .before .before in
     let less = test .loop-test .taken in
@@ -83,7 +83,7 @@ element-copy-out-one c =
     seat
 
 mul-one-2 : tie.Need-mul-one-2 Inv-loop μ-loop
-mul-one-2 c = 
+mul-one-2 c =
     let test = c .before .before in
     let s = test .before .before in
     let less = test .loop-test .taken in
@@ -97,7 +97,7 @@ shl-one : tie.Need-shl-one Inv-loop μ-loop
 shl-one c = let s = c .before .before .before .before in omega (arith, s .pre .0 .0, size-small (s .pre .0 .1))
 
 add-one : tie.Need-add-one Inv-loop μ-loop
-add-one c = 
+add-one c =
     let test = c .before .before in
     let s = test .before .before in
     let less = test .loop-test .taken in
@@ -119,13 +119,12 @@ loop-less : tie.Need-loop-less Inv-loop μ-loop
 loop-less c = search needs
 
 loop-again : tie.Need-loop-again Inv-loop μ-loop
-loop-again c = 
+loop-again c =
     let l = c .before .before .before .loop in
     let s = c .before .before .before .before in
     let less = c .before .before .loop-test .taken in
     let narrow : s .args .t < 8 = omega (arith, s .pre .0 .0, size-small (s .pre .0 .1)) in
-    let pattern = power-shifted 32 (s .args .t) (omega arith) in
-    (
+    let pattern = power-shifted 32 (s .args .t) (omega arith) in (
       omega arith,
       length-set (l .zero) _ _ ∙ l .inv .1,
       length-set (l .one) _ _ ∙ l .inv .2,
@@ -136,7 +135,7 @@ shl-entries : tie.Need-shl-entries Inv-loop μ-loop
 shl-entries c = omega (arith, size-small (c .before .before .pre .0 .1))
 
 mul-double-lanes : tie.Need-mul-double-lanes Inv-loop μ-loop
-mul-double-lanes c = 
+mul-double-lanes c =
     let g = c .before .before .before .pre .0 .1 in
     rw (entries-shifted g) (record { fits = omega (arith, place g {k = c .before .before .before .args .group} (omega arith) .start) })
 
@@ -144,7 +143,7 @@ shl-double-lanes : tie.Need-shl-double-lanes Inv-loop μ-loop
 shl-double-lanes c = let s = c .before .before .before in omega (arith, s .pre .0 .0, size-small (s .pre .0 .1))
 
 double-lanes-requires : tie.Need-double-lanes-requires Inv-loop μ-loop
-double-lanes-requires c κs = 
+double-lanes-requires c κs =
     let l = c .before .before .before .before .loop in
     let s = c .before .before .before .before .before in
     let all : l .k ≡ 4 = omega (arith, c .before .before .before .loop-test .left, l .inv .0) in
@@ -153,7 +152,7 @@ double-lanes-requires c κs =
     rw (entries-shifted g, m) (lanes-ready (s .pre .0 .0) g (s .pre .0 .2) (s .pre .0 .3) _ (s .pre .1 .1) (rw all at (l .inv .3)), s .pre .1 .0)
 
 returns : tie.Need-returns Inv-loop μ-loop
-returns c = 
+returns c =
     let l = c .before .before .before .before .before .loop in
     let s = c .before .before .before .before .before .before in
     let all : l .k ≡ 4 = omega (arith, c .before .before .before .before .loop-test .left, l .inv .0) in

@@ -23,13 +23,13 @@ first-rows-requires : tie.Need-first-rows-requires Inv-loop μ-loop
 first-rows-requires c κs = let s = c .before in (s .pre .1 .0, s .pre .0 .1, s .pre .0 .2, s .pre .0 .3, omega arith)
 
 loop-holds : tie.Need-loop-holds Inv-loop μ-loop
-loop-holds c = 
+loop-holds c =
     let s = c .before .before in
     let two : min (s .args .size) 2 ≡ 2 = omega (arith, s .pre .0 .0) in
     (omega (arith, s .pre .0 .0), refl, s .pre .1 .1, rw two at (filled-now (c .first-rows .ensures)))
 
 add-slots-requires : tie.Need-add-slots-requires Inv-loop μ-loop
-add-slots-requires c κs = 
+add-slots-requires c κs =
     let test = c .before .before in
     let l = test .before .loop in
     let s = test .before .before .before .before in
@@ -39,7 +39,7 @@ add-add-slots : tie.Need-add-add-slots Inv-loop μ-loop
 add-add-slots c = search needs
 
 add-slots-requires-2 : tie.Need-add-slots-requires-2 Inv-loop μ-loop
-add-slots-requires-2 c κs = 
+add-slots-requires-2 c κs =
     let test = c .before .before .before .before .before in
     let l = test .before .loop in
     let s = test .before .before .before .before in
@@ -54,7 +54,7 @@ loop-less : tie.Need-loop-less Inv-loop μ-loop
 loop-less c = search needs
 
 loop-again : tie.Need-loop-again Inv-loop μ-loop
-loop-again c = 
+loop-again c =
     let test = c .before .before .before .before .before .before in
     let l = test .before .loop in
     let s = test .before .before .before .before in
@@ -66,7 +66,7 @@ loop-again c =
     )
 
 returns : tie.Need-returns Inv-loop μ-loop
-returns c = 
+returns c =
     let l = c .before .loop in
     let all : l .t ≡ c .before .before .before .before .args .size = omega arith in
     (l .inv .2, filled-kept (c .before .before .first-rows .ensures .kept) (rw all at (l .inv .3)))

@@ -22,7 +22,7 @@ loop-holds : tie.Need-loop-holds Inv-loop μ-loop
 loop-holds c = (omega arith, c .pre .4, filled-none _ _ (c .pre .0))
 
 mul-first-row : tie.Need-mul-first-row Inv-loop μ-loop
-mul-first-row c = 
+mul-first-row c =
     let g = c .before .before .before .pre .1 in
     rw (entries-shifted g) (record { fits = omega (arith, place g (c .before .loop-test .taken) .start) })
 
@@ -30,7 +30,7 @@ mul-first-row-2 : tie.Need-mul-first-row-2 Inv-loop μ-loop
 mul-first-row-2 c = record { fits = omega (arith, place (c .before .before .before .pre .1) (c .before .loop-test .taken) .seats) }
 
 first-row-requires : tie.Need-first-row-requires Inv-loop μ-loop
-first-row-requires c κs = 
+first-row-requires c κs =
     let s = c .before .before .before in
     let g = s .pre .1 in
     let less = c .before .loop-test .taken in
@@ -46,13 +46,13 @@ loop-less : tie.Need-loop-less Inv-loop μ-loop
 loop-less c = search needs
 
 loop-again : tie.Need-loop-again Inv-loop μ-loop
-loop-again c = 
+loop-again c =
     let l = c .before .before .before .loop in
     let s = c .before .before .before .before in
     (omega arith, omega arith, filled-more (l .inv .2) (l .inv .0) (omega arith) (rw (entries-shifted (s .pre .1)) at (c .first-row .ensures)))
 
 returns : tie.Need-returns Inv-loop μ-loop
-returns c = 
+returns c =
     let all : c .before .loop .k ≡ c .before .before .args .last = omega arith in
     rw all at (c .before .loop .inv .2)
 

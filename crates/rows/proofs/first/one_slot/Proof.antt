@@ -17,7 +17,7 @@ store-requires-2 : tie.Need-store-requires-2
 store-requires-2 c κs = search needs
 
 returns : tie.Need-returns
-returns c = 
+returns c =
     let s = c .before .before .before .before .before in
     let start = s .args .start in
     let first = placed-more (placed-none start (s .pre .0 .0)) {n = 0} refl (omega arith) _ in

@@ -39,21 +39,21 @@ mul-in-order-4 : tie.Need-mul-in-order-4
 mul-in-order-4 c = let s = c .before .before in record { fits = omega (arith, s .pre .3 (s .args .first + s .args .t) (s .pre .1)) }
 
 add-in-order-3 : tie.Need-add-in-order-3
-add-in-order-3 c = 
+add-in-order-3 c =
     let s = c .before .before in
     let few : s .args .t ≤ 1 = omega (arith, s .pre .0) in
     let pattern = power-shifted 32 (s .args .t) (omega (arith, s .pre .0)) in
     record { fits = omega (arith, s .pre .3 (s .args .first + s .args .t) (s .pre .1), pattern, pow-mono {j = 1} few) }
 
 in-order-requires : tie.Need-in-order-requires
-in-order-requires c κs = 
+in-order-requires c κs =
     let s = c .before .before in
     let few : s .args .t ≤ 1 = omega (arith, s .pre .0) in
     let pattern = power-shifted 32 (s .args .t) (omega (arith, s .pre .0)) in
     omega (arith, s .pre .2 (s .args .first + s .args .t) (s .pre .1), s .pre .3 (s .args .first + s .args .t) (s .pre .1), pattern, pow-mono {j = 1} few)
 
 returns : tie.Need-returns
-returns c = 
+returns c =
     let s = c .before .before .before in
     let own = rw (power-shifted 32 (s .args .t) (omega (arith, s .pre .0))) at (c .in-order .ensures) in
     let few : s .args .t ≤ 1 = omega (arith, s .pre .0) in

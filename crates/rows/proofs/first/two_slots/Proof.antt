@@ -35,7 +35,7 @@ store-requires-3 : tie.Need-store-requires-3
 store-requires-3 c κs = let s = c .before .before .before .before .before .before .before .before .before .before .before .before .before .before in (s .pre .0 .1 .inside, omega (arith, s .pre .0 .1 .edge))
 
 add-store-2 : tie.Need-add-store-2
-add-store-2 c = 
+add-store-2 c =
     let own = c .before .before .before .before .before .before .before .before .before .before .before .before .before .before .before .before in
     record { fits = omega (arith, own .slot-entries2 .ensures .1, own .before .slot-entries .ensures .1) }
 
@@ -43,7 +43,7 @@ store-requires-4 : tie.Need-store-requires-4
 store-requires-4 c κs = let s = c .before .before .before .before .before .before .before .before .before .before .before .before .before .before .before .before .before .before in (s .pre .0 .1 .inside, omega (arith, s .pre .0 .1 .edge))
 
 returns : tie.Need-returns
-returns c = 
+returns c =
     let third = c .before .before .before .before in
     let first = third .before .before .before .before in
     let middle = first .before .before .before .before in

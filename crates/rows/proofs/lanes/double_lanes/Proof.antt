@@ -19,7 +19,7 @@ loop-holds : tie.Need-loop-holds Inv-loop μ-loop
 loop-holds c = (omega arith, mirroring-none (c .merge-lanes .ensures))
 
 mul-start : tie.Need-mul-start Inv-loop μ-loop
-mul-start c = 
+mul-start c =
     let test = c in
     let lanes = test .before .before .before .before .pre .0 in
     let k = test .before .loop .k in
@@ -28,7 +28,7 @@ mul-start c =
     record { fits = omega (arith, place .inside) }
 
 add-start : tie.Need-add-start Inv-loop μ-loop
-add-start c = 
+add-start c =
     let test = c in
     let lanes = test .before .before .before .before .pre .0 in
     let k = test .before .loop .k in
@@ -37,7 +37,7 @@ add-start c =
     record { fits = omega (arith, place .inside) }
 
 entry-requires : tie.Need-entry-requires Inv-loop μ-loop
-entry-requires c κs = 
+entry-requires c κs =
     let test = c in
     let lanes = test .before .before .before .before .pre .0 in
     let k = test .before .loop .k in
@@ -49,7 +49,7 @@ sub-entry : tie.Need-sub-entry Inv-loop μ-loop
 sub-entry c = omega (arith, c .before .before .before .before .before .pre .0 .some)
 
 entry-requires-2 : tie.Need-entry-requires-2 Inv-loop μ-loop
-entry-requires-2 c κs = 
+entry-requires-2 c κs =
     let test = c .before in
     let lanes = test .before .before .before .before .pre .0 in
     let k = test .before .loop .k in
@@ -58,7 +58,7 @@ entry-requires-2 c κs =
     (place .inside, omega (arith, place .edge, lanes .some, lanes .room))
 
 add-both : tie.Need-add-both Inv-loop μ-loop
-add-both c = 
+add-both c =
     let test = c .before .before in
     let lanes = test .before .before .before .before .pre .0 in
     let k = test .before .loop .k in
@@ -78,7 +78,7 @@ element-copy-out-both-2 : tie.Need-element-copy-out-both-2 Inv-loop μ-loop
 element-copy-out-both-2 c = search needs
 
 add-both-2 : tie.Need-add-both-2 Inv-loop μ-loop
-add-both-2 c = 
+add-both-2 c =
     let test = c .before .before .before .before in
     let lanes = test .before .before .before .before .pre .0 in
     let k = test .before .loop .k in
@@ -86,7 +86,7 @@ add-both-2 c =
     record { fits = omega (arith, lanes .fits k less, c .before .before .entry2 .ensures, c .before .before .before .entry .ensures) }
 
 add-both-3 : tie.Need-add-both-3 Inv-loop μ-loop
-add-both-3 c = 
+add-both-3 c =
     let test = c .before .before .before .before in
     let lanes = test .before .before .before .before .pre .0 in
     let k = test .before .loop .k in
@@ -94,7 +94,7 @@ add-both-3 c =
     record { fits = omega (arith, lanes .fits k less, c .before .before .entry2 .ensures, c .before .before .before .entry .ensures) }
 
 mirror-requires : tie.Need-mirror-requires Inv-loop μ-loop
-mirror-requires c κs = 
+mirror-requires c κs =
     let test = c .before .before .before .before .before in
     let lanes = test .before .before .before .before .pre .0 in
     let k = test .before .loop .k in
@@ -113,7 +113,7 @@ loop-less : tie.Need-loop-less Inv-loop μ-loop
 loop-less c = search needs
 
 loop-again : tie.Need-loop-again Inv-loop μ-loop
-loop-again c = 
+loop-again c =
     let test = c .before .before .before .before .before .before in
     let lanes = test .before .before .before .before .pre .0 in
     let k = test .before .loop .k in

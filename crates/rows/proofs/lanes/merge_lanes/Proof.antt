@@ -14,7 +14,7 @@ abbrev μ-loop : tie.MeasureT-loop
 μ-loop from to₀ first entries m zero one a₀ b₀ c₀ d₀ t₀ to a b c d t = m - t
 
 loop-holds : tie.Need-loop-holds Inv-loop μ-loop
-loop-holds c = 
+loop-holds c =
     record {
       shaped = c .pre .1;
       kept = λ p l. refl;
@@ -37,7 +37,7 @@ element-copy-out-turn-2 : tie.Need-element-copy-out-turn-2 Inv-loop μ-loop
 element-copy-out-turn-2 c = search needs
 
 turn-requires : tie.Need-turn-requires Inv-loop μ-loop
-turn-requires c κs = 
+turn-requires c κs =
     let test = c .before .before .before in
     let l = test .before .loop in
     turn-ready (test .before .before .pre .0) (test .loop-test .taken) {k = 0} (omega arith) (l .a) (l .inv .lane0 .some)
@@ -55,7 +55,7 @@ element-copy-out-turn-4 : tie.Need-element-copy-out-turn-4 Inv-loop μ-loop
 element-copy-out-turn-4 c = search needs
 
 turn-requires-2 : tie.Need-turn-requires-2 Inv-loop μ-loop
-turn-requires-2 c κs = 
+turn-requires-2 c κs =
     let test = c .before .before .before .before .before .before .before in
     let l = test .before .loop in
     turn-ready (test .before .before .pre .0) (test .loop-test .taken) {k = 1} (omega arith) (l .b) (l .inv .lane1 .some)
@@ -73,7 +73,7 @@ element-copy-out-turn-6 : tie.Need-element-copy-out-turn-6 Inv-loop μ-loop
 element-copy-out-turn-6 c = search needs
 
 turn-requires-3 : tie.Need-turn-requires-3 Inv-loop μ-loop
-turn-requires-3 c κs = 
+turn-requires-3 c κs =
     let test = c .before .before .before .before .before .before .before .before .before .before .before in
     let l = test .before .loop in
     turn-ready (test .before .before .pre .0) (test .loop-test .taken) {k = 2} (omega arith) (l .c) (l .inv .lane2 .some)
@@ -91,13 +91,13 @@ element-copy-out-turn-8 : tie.Need-element-copy-out-turn-8 Inv-loop μ-loop
 element-copy-out-turn-8 c = search needs
 
 turn-requires-4 : tie.Need-turn-requires-4 Inv-loop μ-loop
-turn-requires-4 c κs = 
+turn-requires-4 c κs =
     let test = c .before .before .before .before .before .before .before .before .before .before .before .before .before .before .before in
     let l = test .before .loop in
     turn-ready (test .before .before .pre .0) (test .loop-test .taken) {k = 3} (omega arith) (l .d) (l .inv .lane3 .some)
 
 add-t : tie.Need-add-t Inv-loop μ-loop
-add-t c = 
+add-t c =
     let test = c .before .before .before .before .before .before .before .before .before .before .before .before .before .before .before .before in
     record { fits = omega (arith, test .loop-test .taken, test .before .before .pre .0 .place 0 (omega arith) .edge, test .before .before .pre .0 .room) }
 
@@ -105,7 +105,7 @@ loop-less : tie.Need-loop-less Inv-loop μ-loop
 loop-less c = search needs
 
 loop-again : tie.Need-loop-again Inv-loop μ-loop
-loop-again c = 
+loop-again c =
     let after2 = c .before .before .before .before in
     let after1 = after2 .before .before .before .before in
     let after0 = after1 .before .before .before .before in

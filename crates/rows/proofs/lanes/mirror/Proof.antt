@@ -30,7 +30,7 @@ entry-requires : tie.Need-entry-requires Inv-loop μ-loop
 entry-requires c κs = search needs
 
 sub-store-3 : tie.Need-sub-store-3 Inv-loop μ-loop
-sub-store-3 c = 
+sub-store-3 c =
     let l = c .before .before .before .before .loop in
     let less = c .before .before .before .loop-test .taken in
     rw (c .entry .ensures, lower-same (l .inv .1) less) (c .before .before .before .before .before .pre .1 (l .t) less)
@@ -45,14 +45,14 @@ loop-less : tie.Need-loop-less Inv-loop μ-loop
 loop-less c = search needs
 
 loop-again : tie.Need-loop-again Inv-loop μ-loop
-loop-again c = 
+loop-again c =
     let test = c .before .before .before .before in
     let l = test .before .loop in
     let room = test .before .before .pre .0 .1 in
     (omega arith, rw (c .store .ensures, c .before .entry .ensures) (completed-more (l .inv .1) (test .loop-test .taken) (omega (arith, room .inside, room .edge))))
 
 returns : tie.Need-returns Inv-loop μ-loop
-returns c = 
+returns c =
     let all : c .before .loop .t ≡ c .before .before .args .m = omega arith in
     rw all at (c .before .loop .inv .1)
 

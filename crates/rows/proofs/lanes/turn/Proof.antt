@@ -32,7 +32,7 @@ add-result : tie.Need-add-result
 add-result c = search needs
 
 returns : tie.Need-returns
-returns c = 
+returns c =
     let e = c .before .before .before .before in
     (rw (c .before .store .ensures, c .before .before .least .ensures, e .entry2 .ensures, e .before .entry .ensures) refl, rw (c .less .ensures .0, e .entry2 .ensures, e .before .entry .ensures) refl)
 
