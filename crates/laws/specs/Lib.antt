@@ -4,6 +4,7 @@ pub mod Bits
 pub mod Apart
 pub mod SortedLists
 pub mod SortedRows
+pub mod MirroredRows
 pub mod BranchAndBound
 pub mod Allowance
 pub mod Groups

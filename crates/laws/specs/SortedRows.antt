@@ -193,17 +193,17 @@ module _ (cost : ℕ → ℕ → ℕ) where
       ∙ rw (length-map, length-map, row-length t) (omega (arith, two-pow-succ t))
 
   -- the one pattern of no slot
-  entry-none : (u : ℕ) → u < 2 ^ 0 → entryOf cost 0 u ≡ 0
+  pub entry-none : (u : ℕ) → u < 2 ^ 0 → entryOf cost 0 u ≡ 0
   unfolding entryOf sumBelow
   entry-none u l = omega arith
 
   -- a pattern with bit 0 in slot t
-  entry-zero : (t u : ℕ) → u < 2 ^ t → entryOf cost (suc t) u ≡ entryOf cost t u + cost t 0 * 256
+  pub entry-zero : (t u : ℕ) → u < 2 ^ t → entryOf cost (suc t) u ≡ entryOf cost t u + cost t 0 * 256
   unfolding entryOf sumBelow
   entry-zero t u l = rw (bit-beyond {w = u} {k = t} {i = t} l (omega arith)) (omega arith)
 
   -- a pattern with bit 1 in slot t
-  entry-one : (t u : ℕ) → u < 2 ^ t → entryOf cost (suc t) (u + 2 ^ t) ≡ entryOf cost t u + (cost t 1 * 256 + 2 ^ t)
+  pub entry-one : (t u : ℕ) → u < 2 ^ t → entryOf cost (suc t) (u + 2 ^ t) ≡ entryOf cost t u + (cost t 1 * 256 + 2 ^ t)
   unfolding entryOf sumBelow
   entry-one t u l =
       let parts : u + 2 ^ t ≡ 1 * 2 ^ t + u = omega (arith, one-mul (2 ^ t)) in

@@ -1,0 +1,64 @@
+-- The places of the groups' rows in the table: each lies in one row, and none overlaps another.
+use Prim.Native.Nat.{ℕ, zero, suc, _+_, _*_, _/_, _%_, _^_, _≤_, _<_}
+use mathlib.Core.Path.{_≡_, refl}
+use native.Mathlib.Omega.{arith}
+use Rattle.laws.specs.Bits.{power-shifted}
+use Rattle.rows.specs.Adding.{Sized}
+use Rattle.rows.specs.Cells.{Room}
+
+-- what holds at 1, 2, 4 and 8 holds at every group size
+by-size : (P : ℕ → Type 0) → P 1 → P 2 → P 4 → P 8 → {groups size : ℕ} → Sized groups size → P size
+by-size P one two four eight g = rw (g .shape .2) (go (g .shape .0) (g .shape .1))
+  where
+    go : (f : ℕ) → f ≤ 3 → P (2 ^ f)
+    go zero l = one
+    go (suc zero) l = two
+    go (suc (suc zero)) l = four
+    go (suc (suc (suc zero))) l = eight
+    go (suc (suc (suc (suc f)))) l = absurd (omega arith)
+
+-- the place of group k among groups of a size
+pub record Place (size k : ℕ) : Type 0 where
+  pub start : k * 2 ^ size + 2 ^ size ≤ 2048
+  pub edge : k * 2 ^ size % 256 + 2 ^ size ≤ 256
+  pub seats : k * size + size ≤ 64
+
+module _ {groups size : ℕ} (g : Sized groups size) where
+  pub place : {k : ℕ} → k < groups → Place size k
+  place {k} l =
+      by-size (λ (size : ℕ). groups * size ≤ 64 → Place size k) (λ h. omega arith) (λ h. omega arith) (λ h. omega arith) (λ h. omega arith) g (g .seats)
+
+  -- slot t of group k has a seat
+  pub seat-inside : {k t : ℕ} → k < groups → t < size → k * size + t < 64
+  seat-inside l h = omega (arith, place l .seats)
+
+  pub groups-few : groups ≤ 64
+  groups-few =
+      by-size (λ (size : ℕ). groups * size ≤ 64 → groups ≤ 64) (λ h. omega arith) (λ h. omega arith) (λ h. omega arith) (λ h. omega arith) g (g .seats)
+
+  -- a group has one slot at least and 8 at most
+  pub size-some : 1 ≤ size
+  size-some = by-size (λ (size : ℕ). 1 ≤ size) (omega arith) (omega arith) (omega arith) (omega arith) g
+
+  pub size-small : size ≤ 8
+  size-small = by-size (λ (size : ℕ). size ≤ 8) (omega arith) (omega arith) (omega arith) (omega arith) g
+
+  -- more than two slots are 4 or 8
+  pub size-even : 2 < size → size % 2 ≡ 0
+  size-even = by-size (λ (size : ℕ). 2 < size → size % 2 ≡ 0) (λ n. absurd (omega arith)) (λ n. refl) (λ n. refl) (λ n. refl) g
+
+  -- where more than two slots make groups, four groups from a multiple of four on have seats too
+  pub four-sized : 2 < size → {k : ℕ} → k < groups → k % 4 ≡ 0 → Sized (k + 4) size
+  four-sized few {k} l whole = record {
+    shape = g .shape;
+    seats = by-size (λ (size : ℕ). 2 < size → groups * size ≤ 64 → (k + 4) * size ≤ 64) (λ n. absurd (omega arith)) (λ n. absurd (omega arith))
+        (λ n h. omega arith)
+        (λ n h. omega arith)
+        g
+        few
+        (g .seats);
+  }
+
+  -- the number of entries, as the machine shifts it
+  pub entries-shifted : 1 * 2 ^ size % 2 ^ 64 ≡ 2 ^ size
+  entries-shifted = power-shifted 64 size (omega (arith, size-small))

@@ -1,0 +1,26 @@
+-- What the bits of each slot add to an entry, and the table of the sorted rows that they make.
+use Prim.Native.Nat.{ℕ, zero, suc, _+_, _*_, _^_, _≤_, _<_}
+use mathlib.Core.Path.{_≡_}
+use mathlib.Core.List.{List}
+use lib.ListN.{getD}
+use Rattle.laws.specs.SortedRows.{rowOf}
+use Rattle.rows.specs.Table.{entryAt}
+
+-- groups of 1, 2, 4 or 8 slots, with 64 seats at most
+pub record Sized (groups size : ℕ) : Type 0 where
+  pub shape : (f : ℕ) × (f ≤ 3) × (size ≡ 2 ^ f)
+  pub seats : groups * size ≤ 64
+
+-- what a bit adds, at each of the 64 seats, takes 20 bits at most
+abbrev pub Small : List ℕ → Type 0
+Small l = (i : ℕ) → i < 64 → getD l i 0 < 2 ^ 20
+
+-- what bit b adds in slot t of the group whose first seat is given
+abbrev pub adds : List ℕ → List ℕ → ℕ → ℕ → ℕ → ℕ
+adds zeros ones first t zero = getD zeros (first + t) 0
+adds zeros ones first t (suc b) = getD ones (first + t) 0
+
+-- the table's row of each group is the sorted row of what its slots add
+unfoldable pub RowsRight : List ℕ → List ℕ → ℕ → ℕ → List (List ℕ) → Type 0
+RowsRight zeros ones groups size table =
+    (k j : ℕ) → k < groups → j < 2 ^ size → entryAt table size k j ≡ getD (rowOf (adds zeros ones (k * size)) size) j 0
