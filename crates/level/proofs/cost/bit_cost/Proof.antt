@@ -5,8 +5,9 @@ use mathlib.Core.Bool.{cond}
 use native.Mathlib.Nat.{mul-le-mul}
 use native.Mathlib.Omega.{arith}
 use borrow.Author.Needs.{needs}
+use borrow.Author.Tests.{ne-eqb}
 use lib.Dec.{eqb}
-use lib.IntN.{ℤ, natAbs}
+use lib.IntN.{ℤ, pos, negsuc, natAbs}
 use mir.Syntax.{w32}
 use mir.Val.{SFits}
 use mir.ValLaws.{toZ-ofZ}
@@ -23,8 +24,10 @@ nearest-small z f =
 
 -- the excess of every bit but 0 is that of bit 1
 excess-picked : (z : ℤ) (b : ℕ) → cond (eqb b 0) (excess z 0) (excess z 1) ≡ excess z b
+unfolding excess
 excess-picked z zero = refl
-excess-picked z (suc b) = ?
+excess-picked (pos m) (suc b) = rw (ne-eqb (suc b) 0 (λ e. omega arith))
+excess-picked (negsuc m) (suc b) = rw (ne-eqb (suc b) 0 (λ e. omega arith))
 
 slot-requires : tie.Need-slot-requires
 slot-requires c κs = search needs
@@ -39,10 +42,21 @@ mul-result : tie.Need-mul-result
 mul-result c = search needs
 
 add-result : tie.Need-add-result
-add-result c = ?
+add-result c =
+    let s = c .before .before .before in
+    let z = s .args .level in
+    let near : c .before .before .slot .result .nearest ≤ 2 ^ 62 =
+    rw (c .before .before .slot .ensures .0, toZ-ofZ w32 z (s .fits .level)) (nearest-small z (s .fits .level)) in
+    record { fits = omega arith }
 
 returns : tie.Need-returns
-returns c = ?
+returns c =
+    let s = c .before .before .before in
+    let z = s .args .level in
+    let b = s .args .b in
+    let near = c .before .before .slot .ensures in
+    let pick = c .before .pick .ensures in
+    rw (pick, near .0, near .1, near .2, toZ-ofZ w32 z (s .fits .level), excess-picked z b, cost-split z b)
 
 pub bit-cost-spec : {M : Type 1} → statement M
 bit-cost-spec =
