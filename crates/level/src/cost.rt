@@ -13,7 +13,11 @@ fn magnitude(level: i32) -> u32
     ensures { λ r. ⌜ r ≡ natAbs level ⌝ }
 {
     let wide = level as i64;
-    if wide < 0 { (0 - wide) as u32 } else { wide as u32 }
+    if wide < 0 {
+        (0 - wide) as u32
+    } else {
+        wide as u32
+    }
 }
 
 // How far two numbers are apart.

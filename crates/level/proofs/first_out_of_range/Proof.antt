@@ -36,8 +36,7 @@ returns : tie.Need-returns Inv-loop μ-loop
 returns c =
     let l = c .before .before .before in
     let at = l .before .loop in
-    let level = levelAt (l .before .before .args .levels .now) (at .i) in
-    (
+    let level = levelAt (l .before .before .args .levels .now) (at .i) in (
       rw (lt-ltb _ _ (l .loop-test .taken))
           (some-of _ _ _ (l .loop-test .taken) (tested level (c .before .before .in-range-arg .given) (c .before .in-range .ensures) (c .if1 .taken)) (at .inv .1)),
       omega arith,

@@ -34,8 +34,7 @@ returns c =
     let z = s .args .level in
     let read = toZ-ofZ w32 z (s .fits .level) in
     let m = c .before .before .before .before .magnitude .ensures ∙ ap natAbs read in
-    let near = c .before .before .before .apart .ensures ∙ ap beside m in
-    (
+    let near = c .before .before .before .apart .ensures ∙ ap beside m in (
       c .before .before .square .ensures ∙ ap₂ _*_ near near,
       c .before .pick .ensures ∙ ap₂ (λ (y : ℤ) (x : ℕ). cond (ltZ (pos 0) y) x 0) read m ∙ excess-zero z,
       c .pick2 .ensures ∙ ap₂ (λ (y : ℤ) (x : ℕ). cond (ltZ y (pos 0)) x 0) read m ∙ excess-one z,
