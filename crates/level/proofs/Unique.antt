@@ -1,17 +1,21 @@
 -- No second answer: of each public function, two results that meet its contract are equal.
 -- The contracts are those of src/ themselves, as the check reads them: a weaker one has no such theorem.
+use mathlib.Core.Path.{sym, _∙_}
 use Rattle.laws.specs.Answers.{OneResult, one-answer}
 use Rattle.level.specs.Unique.{found-injective, measured-injective, slot-injective}
 use Rattle.level.proofs.ideal.Reads as ideal
+use Rattle.level.proofs.magnitude.Reads as magnitude
 use Rattle.level.proofs.in_range.Reads as in-range
 use Rattle.level.proofs.first_out_of_range.Reads as first-out-of-range
 use Rattle.level.proofs.clipped.Reads as clipped
 use Rattle.level.proofs.distance.Reads as distance
 use Rattle.level.proofs.cost.slot.Reads as slot
-use mathlib.Core.Path.{sym, _∙_}
 
 pub ideal-unique : OneResult ideal.Learnt
 ideal-unique κs a r s v w p q = one-answer p q
+
+pub magnitude-unique : OneResult magnitude.Learnt
+magnitude-unique κs a r s v w p q = one-answer p q
 
 pub in-range-unique : OneResult in-range.Learnt
 in-range-unique κs a r s v w p q = one-answer p q

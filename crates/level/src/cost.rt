@@ -3,22 +3,10 @@
 ghost use mathlib.Core.Path.{_≡_};
 ghost use mathlib.Core.Bool.{cond};
 ghost use Prim.Native.Nat.{_+_, _-_, _*_};
-ghost use lib.IntN.{natAbs};
 ghost use Rattle.rules.specs.Level.{slotCost};
 ghost use Rattle.laws.specs.Excess.{nearest, excess};
 use crate::Slot;
-
-// The magnitude of a level.
-fn magnitude(level: i32) -> u32
-    ensures { λ r. ⌜ r ≡ natAbs level ⌝ }
-{
-    let wide = level as i64;
-    if wide < 0 {
-        (0 - wide) as u32
-    } else {
-        wide as u32
-    }
-}
+use crate::magnitude;
 
 // How far two numbers are apart.
 fn apart(a: u32, b: u32) -> u32

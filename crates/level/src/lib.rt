@@ -4,7 +4,7 @@ pub mod cost;
 
 ghost use mathlib.Core.Path.{_≡_};
 ghost use Prim.Native.Nat.{_≤_, _^_, min};
-ghost use lib.IntN.{pos};
+ghost use lib.IntN.{pos, natAbs};
 ghost use lib.ListN.{length};
 ghost use Rattle.rules.specs.Level as rules;
 ghost use Rattle.rules.specs.Sample.{clip};
@@ -38,6 +38,18 @@ pub fn ideal(b: u32) -> i32
     ensures { λ r. ⌜ r ≡ rules.ideal b ⌝ }
 {
     if b == 0 { -256 } else { 256 }
+}
+
+// The magnitude of a level.
+pub fn magnitude(level: i32) -> u32
+    ensures { λ r. ⌜ r ≡ natAbs level ⌝ }
+{
+    let wide = level as i64;
+    if wide < 0 {
+        (0 - wide) as u32
+    } else {
+        wide as u32
+    }
 }
 
 // Whether a level is a received level's, from -LIMIT to LIMIT.

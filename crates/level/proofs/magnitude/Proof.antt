@@ -1,4 +1,4 @@
--- `level::cost::magnitude` meets its contract.
+-- `level::magnitude` meets its contract.
 use Prim.Native.Nat.{ℕ, suc, _<_}
 use mathlib.Core.Path.{_≡_, refl, ap, _∙_}
 use mathlib.Core.Bool.{true, false, true≢false}
@@ -11,8 +11,8 @@ use mir.Syntax.{w32, w64}
 use mir.Val.{SFits, ofZ, toZ}
 use mir.ValLaws.{toZ-ofZ}
 use Rattle.level.proofs.Tests.{magnitude-le}
-use Rattle.level.proofs.cost.magnitude.Statement.{statement}
-use Rattle.level.proofs.cost.magnitude.Tie as tie
+use Rattle.level.proofs.magnitude.Statement.{statement}
+use Rattle.level.proofs.magnitude.Tie as tie
 
 module _ (z : ℤ) (f : SFits w32 z) where
   wide : SFits w64 z
