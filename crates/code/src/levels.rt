@@ -11,20 +11,13 @@ use crate::Encoded;
 use refusal::Refusal;
 use word::Word;
 
-// The ideal level of a bit.
-fn ideal(b: u32) -> i32
-    ensures { λ r. ⌜ r ≡ rules.ideal b ⌝ }
-{
-    if b == 0 { -256 } else { 256 }
-}
-
 // The ideal level of the codeword's bit i, written to each slot i: a slice of N then holds its ideal levels.
 fn fill(x: Word, levels: &mut [i32])
     ensures { λ _. ⌜ ((k : ℕ) → length (now (levels .entry)) ≡ 2 ^ k → now (levels .exit) ≡ rules.idealLevels k (wordOf x)) ⌝ }
 {
     let mut i = 0;
     while i < levels.len() {
-        levels[i] = ideal(word::bit(x, i));
+        levels[i] = level::ideal(word::bit(x, i));
         i += 1;
     }
 }

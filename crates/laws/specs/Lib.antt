@@ -33,6 +33,7 @@ pub mod Demand3
 pub mod FillingCount
 pub mod CleanBlock
 pub mod GreatestDistance
+pub mod Excess
 pub mod SquaredNorm
 pub mod LittleEndian
 pub mod Digits

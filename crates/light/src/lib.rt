@@ -3,7 +3,6 @@ ghost use mathlib.Core.Path.{_≡_};
 ghost use Prim.Native.Nat.{_+_, _≤_, _<_};
 ghost use lib.ListN.{length, take};
 ghost use Rattle.rules.specs.Assembling as rules;
-ghost use Rattle.rules.specs.Refusals.{isWrongSize};
 ghost use Rattle.rules.specs.Answers.{levelAnswer, takeAnswer, takeLeft};
 ghost use Rattle.light.specs.Values.{quantisedOf, readingOf, assemblerOf, room, Hands, Starts, Gives};
 ghost use Rattle.light.specs.Steps.{isWrong, Fills, Takes};
@@ -11,12 +10,7 @@ use refusal::Refusal;
 
 mod sample; // sample.rt: the steps from a sample to its level
 
-// The greatest magnitude of a level.
-pub const LIMIT: i32 = 1024;
-
-// The largest n, and N there: how many levels an assembler has room for.
-const LARGEST: u32 = 6;
-
+// N at the largest n: how many levels an assembler has room for.
 const ROOM: usize = 64;
 
 // An in-phase and a quadrature sample.
@@ -63,7 +57,7 @@ pub fn level(s: f32) -> Quantised
 {
     if sample::is_finite(s) {
         let x = sample::near(s);
-        let size = sample::clipped(sample::nearest(x * sample::SCALE));
+        let size = level::clipped(sample::nearest(x * sample::SCALE));
         if x < 0.0 {
             return Quantised::Level(-size);
         }
@@ -72,21 +66,11 @@ pub fn level(s: f32) -> Quantised
     Quantised::NotFinite
 }
 
-// Whether n is not 1..6.
-fn is_wrong_size(n: u32) -> bool
-    ensures { λ r. ⌜ r ≡ isWrongSize n ⌝ }
-{
-    if n < 1 {
-        return true;
-    }
-    n > LARGEST
-}
-
 // Whether an assembler of this n and so many slots filled is refused.
 fn is_wrong(n: u32, filled: usize) -> bool
     ensures { λ r. ⌜ r ≡ isWrong n filled ⌝ }
 {
-    if is_wrong_size(n) {
+    if word::wrong_size(n) {
         return true;
     }
     filled > 1usize << n
@@ -125,7 +109,7 @@ impl Assembler {
             filled: 0,
             levels: [0i32; ROOM],
         };
-        if is_wrong_size(n) {
+        if word::wrong_size(n) {
             return assembler.refused(Refusal::Size);
         }
         assembler.done()

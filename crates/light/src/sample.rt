@@ -1,18 +1,16 @@
-// The steps from a sample to its level: NaN and infinities told apart, a large magnitude clipped first, the whole number nearest
-// to the scaled sample worked out from its bits, and the clip to LIMIT.
+// The steps from a sample to its level before the clip: NaN and infinities told apart, a large magnitude clipped first, and the
+// whole number nearest to the scaled sample worked out from its bits.
 ghost use mathlib.Core.Path.{_≡_};
-ghost use Prim.Native.Nat.{_<_, min};
+ghost use Prim.Native.Nat.{_<_};
 ghost use lib.Dec.{T};
-ghost use lib.IntN.{pos};
 ghost use lib.Ieee.Scale.{finite};
-ghost use Rattle.rules.specs.Level.{limit};
 ghost use Rattle.rules.specs.Sample.{nearestWhole};
 ghost use Rattle.light.specs.Steps.{within, wholeOf, Near};
 
 // How many levels one unit of light has.
 pub(crate) const SCALE: f32 = 256.0;
 
-// Every sample past this magnitude has a level past LIMIT: 8 times SCALE is 2048.
+// Every sample past this magnitude has a level past the limit: 8 times SCALE is 2048.
 const FAR: f32 = 8.0;
 
 // Whether a sample is neither NaN nor an infinity.
@@ -72,14 +70,4 @@ pub(crate) fn nearest(x: f32) -> u32
     }
     let digits = 0x80_0000 + (bits & 0x7f_ffff);
     nearest_whole(digits, 1u32 << (150 - exponent))
-}
-
-// A number clipped to LIMIT.
-pub(crate) fn clipped(size: u32) -> i32
-    ensures { λ r. ⌜ r ≡ pos (min size limit) ⌝ }
-{
-    if size < crate::LIMIT as u32 {
-        return size as i32;
-    }
-    crate::LIMIT
 }

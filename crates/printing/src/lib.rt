@@ -1,6 +1,4 @@
 // The parts of a line, written to standard output: text, numbers, levels and refusals.
-ghost use mathlib.Core.Path.{_≡_};
-ghost use lib.IntN.{natAbs};
 use libc::STDOUT_FILENO;
 use refusal::Refusal;
 
@@ -21,23 +19,12 @@ pub fn hex(name: &[u8], value: u64) {
     io::print_hex(STDOUT_FILENO, value, 1);
 }
 
-// The magnitude of a level.
-fn magnitude(z: i32) -> u64
-    ensures { λ r. ⌜ r ≡ natAbs z ⌝ }
-{
-    let wide = z as i64;
-    if wide < 0 {
-        return (0 - wide) as u64;
-    }
-    wide as u64
-}
-
 // A level in decimal.
 pub fn level(z: i32) {
     if z < 0 {
         say(b"-");
     }
-    io::print_decimal(STDOUT_FILENO, magnitude(z));
+    io::print_decimal(STDOUT_FILENO, level::magnitude(z) as u64);
 }
 
 // A level of a list, the first without a comma.

@@ -1,4 +1,4 @@
--- `light::sample::clipped` meets its contract.
+-- `level::clipped` meets its contract.
 use mathlib.Core.Path.{sym, ap, _∙_}
 use native.Mathlib.Nat.{min-eq-left, min-eq-right}
 use native.Mathlib.Omega.{arith}
@@ -6,8 +6,8 @@ use borrow.Author.Needs.{needs}
 use lib.IntN.{pos}
 use mir.Syntax.{w32}
 use mir.ValLaws.{toZ-pos}
-use Rattle.light.proofs.sample.clipped.Statement.{statement}
-use Rattle.light.proofs.sample.clipped.Tie as tie
+use Rattle.level.proofs.clipped.Statement.{statement}
+use Rattle.level.proofs.clipped.Tie as tie
 
 cast-if1 : tie.Need-cast-if1
 cast-if1 c = search needs

@@ -1,10 +1,10 @@
--- `code::levels::ideal` meets its contract.
+-- `level::ideal` meets its contract.
 use Prim.Native.Nat.{ℕ, zero, suc}
 use mathlib.Core.Path.{_≡_, refl}
 use lib.IntN.{pos}
 use Rattle.rules.specs.Level as rules
-use Rattle.code.proofs.levels.ideal.Statement.{statement}
-use Rattle.code.proofs.levels.ideal.Tie as tie
+use Rattle.level.proofs.ideal.Statement.{statement}
+use Rattle.level.proofs.ideal.Tie as tie
 
 of-one : (b : ℕ) → (b ≡ 0 → ⊥) → pos 256 ≡ rules.ideal b
 of-one zero other = absurd (other refl)
