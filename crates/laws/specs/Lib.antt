@@ -58,4 +58,3 @@ pub mod SeatedWalk
 pub mod FillingNumber
 pub mod Orders
 pub mod Records
-pub mod Excess

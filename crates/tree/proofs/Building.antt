@@ -1,7 +1,7 @@
 -- Group sizes: what holds at 1, 2, 4 and 8 holds at each.
 use Prim.Native.Nat.{ℕ, zero, suc, _^_, _≤_}
 use native.Mathlib.Omega.{arith}
-use Rattle.tree.specs.Costs.{GroupSize}
+use Rattle.tree.specs.Grouping.{GroupSize}
 
 -- what holds at 1, 2, 4 and 8 holds at every group size
 pub by-size : (P : ℕ → Type 0) → P 1 → P 2 → P 4 → P 8 → {size : ℕ} → GroupSize size → P size

@@ -13,7 +13,7 @@ use Rattle.rules.specs.Below.{firstBelow}
 use Rattle.rules.specs.Level.{inRange, levelAt}
 use Rattle.laws.specs.Sums.{none-at}
 use Rattle.laws.specs.Bits.{power-shifted}
-use Rattle.tree.specs.Costs.{firstOut, slotFound}
+use Rattle.level.specs.Range.{firstOut, slotFound}
 
 -- the length of the slice
 pub length-right : (m slots : ℕ) → m ≡ slots → not (eqb m slots) ≡ false

@@ -16,12 +16,12 @@ use Rattle.rules.specs.Level.{limit, inRange}
 use Rattle.laws.specs.Sums.{sum-le, sum-const}
 use Rattle.laws.specs.SortedRows.{row-cong}
 use Rattle.laws.specs.Excess.{excess, nearest, excess-greatest, nearest-greatest, excess-one-bit}
-use Rattle.tree.specs.Adding.{Small, adds, RowsRight}
+use Rattle.rows.specs.Adding.{adds, RowsRight}
 use Rattle.tree.specs.Nodes.{most}
-use Rattle.tree.specs.Slots.{Levelled, SeatGives, GroupGives, Gives, Ranked, seatLevel, nearSum}
+use Rattle.tree.specs.Slots.{SmallSeats, Levelled, SeatGives, GroupGives, Gives, Ranked, seatLevel, nearSum}
 
 -- a small number put into a list of small ones
-small-set : (l : List ℕ) (i v : ℕ) → Small l → i < 64 → v < 2 ^ 20 → Small (set l i v)
+small-set : (l : List ℕ) (i v : ℕ) → SmallSeats l → i < 64 → v < 2 ^ 20 → SmallSeats (set l i v)
 small-set l i v s h few =
     record { long = length-set l i v ∙ s .long; small = λ j hj. go j hj (ℕ-discrete j i) }
   where
@@ -30,12 +30,12 @@ small-set l i v s h few =
     go j hj (no n) = rw (getD-set-other l i j v 0 n) (s .small j hj)
 
 -- a list of zeros
-pub small-none : Small (replicate 64 0)
+pub small-none : SmallSeats (replicate 64 0)
 small-none = record { long = length-replicate {A = ℕ} 64 0; small = λ i h. rw (getD-replicate {A = ℕ} 64 i 0 0 h) (pow-pos 20) }
 
 module _ (levels : List ℤ) (index : List ℕ) (first : ℕ) (zeros units : List ℕ) where
   -- no slot yet
-  pub gives-none : Small zeros → Small units → GroupGives levels index first zeros units 0 zeros units 0
+  pub gives-none : SmallSeats zeros → SmallSeats units → GroupGives levels index first zeros units 0 zeros units 0
   unfolding sumBelow
   gives-none small-zeros small-units =
       record {
@@ -106,7 +106,7 @@ later-seats {levels} {index} k size l h =
     }
 
 -- no group yet
-pub all-none : {levels : List ℤ} {index : List ℕ} (size : ℕ) {zero one near : List ℕ} → Small zero → Small one
+pub all-none : {levels : List ℤ} {index : List ℕ} (size : ℕ) {zero one near : List ℕ} → SmallSeats zero → SmallSeats one
     → Gives levels index 0 size zero one near
 all-none size small-zero small-one =
     record {

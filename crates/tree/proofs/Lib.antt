@@ -11,7 +11,6 @@ pub mod Packing
 pub mod Rows
 pub mod Steps
 pub mod Trying
-pub mod Costs
 pub mod Giving
 pub mod Searching
 pub mod Emptiness

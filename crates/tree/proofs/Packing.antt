@@ -6,7 +6,7 @@ use native.Mathlib.Omega.{arith}
 use lib.Arith.{digits-lt, mod-mul}
 use lib.Pow.{pow-pos, pow-add}
 use Rattle.laws.specs.Bits.{power-shifted}
-use Rattle.tree.specs.Tables.{Inside}
+use Rattle.tree.specs.Nodes.{Inside}
 
 module _ {size k j : ℕ} (inside : Inside size k j) where
   -- a row's length as the machine shifts it

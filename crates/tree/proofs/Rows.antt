@@ -9,7 +9,7 @@ use lib.Seq.{drop-cons}
 use Rattle.rules.specs.Walk.{Candidate}
 use Rattle.laws.specs.Each.{each-length, each-at}
 use Rattle.laws.specs.SeatedRow.{isOpen, entryCandidate, entryCandidates}
-use Rattle.tree.specs.Tables.{entryAt, rowAt}
+use Rattle.rows.specs.Table.{entryAt, rowAt}
 
 module _ (table : List (List ℕ)) (n F size k near forced shut : ℕ) where
   -- the candidates from entry j on

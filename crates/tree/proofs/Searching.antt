@@ -30,7 +30,7 @@ use Rattle.laws.specs.SortedRows.{rowOf, row-length, row-at, row-cong, entry-pa
 use Rattle.laws.specs.Allowance.{walkIn, walk-cong}
 use Rattle.tree.specs.Seating.{Seated}
 use Rattle.tree.specs.Grouping.{Grouped, Covered, Shut, Changes}
-use Rattle.tree.specs.Tables.{entryAt, rowAt}
+use Rattle.rows.specs.Table.{entryAt, rowAt}
 use Rattle.tree.specs.Slots.{Levelled, Ranked, seatLevel}
 use Rattle.tree.specs.Nodes.{Tabled, rowCandidates, most, coveredIn, shutIn, nearIn}
 use Rattle.tree.specs.States.{empty}

@@ -16,8 +16,9 @@ use Rattle.laws.specs.SeatWords.{seat}
 use Rattle.laws.specs.SeatedRow.{blockOf, fillingOf, isOpen, branchOf, entryCandidate}
 use Rattle.laws.specs.Decided.{decided, changeOf, Filled, filled}
 use Rattle.laws.specs.Copied.{change-copied}
-use Rattle.tree.specs.Tables.{Inside, entryAt}
-use Rattle.tree.specs.Costs.{GroupSize}
+use Rattle.rows.specs.Table.{entryAt}
+use Rattle.tree.specs.Nodes.{Inside}
+use Rattle.tree.specs.Grouping.{GroupSize}
 use Rattle.tree.specs.Grouping.{Grouped}
 use Rattle.tree.specs.Nodes.{Given, rowCandidates, most, coveredIn, shutIn, nearIn}
 use Rattle.tree.specs.declared.group.Tree.{Tree}

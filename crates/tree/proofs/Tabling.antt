@@ -20,7 +20,7 @@ use Rattle.laws.specs.SeatedBlocks.{unseat-block}
 use Rattle.laws.specs.Decided.{shutOf, shut-block}
 use Rattle.laws.specs.Copied.{shut-is}
 use Rattle.tree.specs.declared.group.Tree.{Tree}
-use Rattle.tree.specs.Costs.{GroupSize}
+use Rattle.tree.specs.Grouping.{GroupSize}
 use Rattle.tree.specs.Grouping.{Grouped, Shut}
 use Rattle.tree.specs.Seating.{Seated}
 use Rattle.tree.proofs.Building as sizes

@@ -16,7 +16,7 @@ use Rattle.laws.specs.Allowance.{visitIn, walkIn, visit-end, visit-stopped, vis
 use Rattle.laws.specs.SeatedRow.{isOpen, entryCandidate}
 use Rattle.laws.specs.Decided.{decided, decided-all}
 use Rattle.laws.specs.Bits.{power-shifted}
-use Rattle.tree.specs.Tables.{entryAt}
+use Rattle.rows.specs.Table.{entryAt}
 use Rattle.tree.specs.States.{keptOf, runningOf, stateOf}
 use Rattle.tree.specs.Nodes.{Given, rowCandidates, coveredIn, shutIn}
 use Rattle.tree.specs.declared.group.Tree.{Tree}

@@ -1,8 +1,5 @@
 pub mod Seating
 pub mod Grouping
-pub mod Tables
-pub mod Adding
-pub mod Costs
 pub mod Slots
 pub mod Empty
 pub mod States

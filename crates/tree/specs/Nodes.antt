@@ -9,13 +9,19 @@ use Rattle.laws.specs.Decided.{Blank}
 use Rattle.laws.specs.SeatWords.{seat}
 use Rattle.laws.specs.SeatedRow.{blockOf, branchOf, entryCandidates}
 use Rattle.tree.specs.Grouping.{Grouped, Covered, Shut, Changes}
-use Rattle.tree.specs.Tables.{entryAt, rowAt}
+use Rattle.rows.specs.Table.{entryAt, rowAt}
 use Rattle.tree.specs.declared.group.Tree.{Tree}
 use Rattle.tree.specs.declared.state.Walked.{Walked}
 
 -- the greatest cost of a slot
 abbrev pub most : ℕ
 most = (limit + 256) * (limit + 256)
+
+-- a group whose row is in the table of rows, and an entry of it
+pub record Inside (size k j : ℕ) : Type 0 where
+  pub narrow : size ≤ 8
+  pub group : k * 2 ^ size < 2048
+  pub entry : j < 2 ^ size
 
 -- the walk's tables: what each group covers, its frozen indices, what its nearer bits cost
 abbrev pub coveredIn : List (List ℕ) → List ℕ

@@ -11,8 +11,13 @@ use Rattle.rules.specs.Below.{sumBelow}
 use Rattle.rules.specs.Level.{inRange, levelAt}
 use Rattle.laws.specs.Excess.{excess, nearest}
 use Rattle.laws.specs.SortedRows.{rowOf}
-use Rattle.tree.specs.Tables.{entryAt}
-use Rattle.tree.specs.Adding.{Small}
+use Rattle.rows.specs.Table.{entryAt}
+use Rattle.rows.specs.Adding.{Small}
+
+-- a number for each of 64 seats, small enough to be added up
+pub record SmallSeats (l : List ℕ) : Type 0 where
+  pub long : length l ≡ 64
+  pub small : Small l
 
 -- the level at a seat
 abbrev pub seatLevel : List ℤ → List ℕ → ℕ → ℤ
@@ -38,15 +43,15 @@ SeatGives levels index zero one seat =
 pub record GroupGives (levels : List ℤ) (index : List ℕ) (first : ℕ) (zero₀ one₀ : List ℕ) (t : ℕ) (zero one : List ℕ) (near : ℕ) : Type 0 where
   pub own : (i : ℕ) → i < t → SeatGives levels index zero one (first + i)
   pub other : (seat : ℕ) → (seat < first) ⊎ (first + t ≤ seat) → (getD zero seat 0 ≡ getD zero₀ seat 0) × (getD one seat 0 ≡ getD one₀ seat 0)
-  pub small-zero : Small zero
-  pub small-one : Small one
+  pub small-zero : SmallSeats zero
+  pub small-one : SmallSeats one
   pub sum : near ≡ nearSum levels index first t
 
 -- all slots of so many groups are in the lists, and what the nearer bits of each group cost
 pub record Gives (levels : List ℤ) (index : List ℕ) (groups size : ℕ) (zero one near : List ℕ) : Type 0 where
   pub own : (seat : ℕ) → seat < groups * size → SeatGives levels index zero one seat
-  pub small-zero : Small zero
-  pub small-one : Small one
+  pub small-zero : SmallSeats zero
+  pub small-one : SmallSeats one
   pub sums : (k : ℕ) → k < groups → getD near k 0 ≡ nearSum levels index (k * size) size
 
 -- the table has the sorted row of each group by what its bits cost more, and the list what its nearer bits cost

@@ -1,11 +1,9 @@
 // Decoding by the folded tree: the least word of received levels, under every folding.
-mod cost;
 mod empty;
 mod group;
 mod seat;
 mod slot;
 mod state;
-mod table;
 mod walk;
 
 ghost use mathlib.Core.Path.{_≡_};
@@ -83,7 +81,7 @@ pub fn decode(n: u32, levels: &[i32], frozen: Word, folding: u32, allowance: u32
     if 3 < word::count::folding_size(folding) {
         return Answer::Refused(Refusal::WideFolding);
     }
-    let first = cost::first_out_of_range(levels);
+    let first = level::first_out_of_range(levels);
     if first < slots {
         return Answer::Refused(Refusal::Range(first));
     }

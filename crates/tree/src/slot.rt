@@ -5,10 +5,8 @@ ghost use Prim.Native.Nat.{_+_, _*_, _<_};
 ghost use lib.ListN.{length, getD};
 ghost use Rattle.rules.specs.Below.{sumBelow};
 ghost use Rattle.rules.specs.Level.{levelAt};
-ghost use Rattle.tree.specs.Adding.{Small};
 ghost use Rattle.tree.specs.Grouping.{Grouped};
-ghost use Rattle.tree.specs.Slots.{Levelled, GroupGives, Gives, Ranked};
-use crate::cost::slot_gives;
+ghost use Rattle.tree.specs.Slots.{SmallSeats, Levelled, GroupGives, Gives, Ranked};
 use crate::group::Tree;
 
 // The level at a seat.
@@ -29,14 +27,14 @@ fn group_gives(
     zero: &mut [u32; 64],
     one: &mut [u32; 64],
 ) -> u64
-    requires { ⌜ Levelled (now levels) (now index) first size × Small (now zero) × Small (now one) ⌝ }
+    requires { ⌜ Levelled (now levels) (now index) first size × SmallSeats (now zero) × SmallSeats (now one) ⌝ }
     ensures { λ r. ⌜ GroupGives (now (levels .entry)) (now (index .entry)) first (now (zero .entry)) (now (one .entry)) size (now (zero .exit)) (now (one .exit)) r ⌝ }
 {
     let mut near = 0;
     let mut t = 0;
     while t < size {
         let seat = first + t;
-        let own = slot_gives(seat_level(levels, index, seat));
+        let own = level::cost::slot(seat_level(levels, index, seat));
         zero[seat] = own.zero;
         one[seat] = own.one;
         near += own.nearest;
@@ -55,7 +53,7 @@ fn gives(
     near: &mut [u64; 64],
 )
     requires { ⌜ Grouped tree × Levelled (now levels) (now index) 0 (tree .groups * tree .size) ⌝ }
-    requires { ⌜ Small (now zero) × Small (now one) × (length (now near) ≡ 64) ⌝ }
+    requires { ⌜ SmallSeats (now zero) × SmallSeats (now one) × (length (now near) ≡ 64) ⌝ }
     ensures { λ _. ⌜ Gives (now (levels .entry)) (now (index .entry)) (tree .groups) (tree .size) (now (zero .exit)) (now (one .exit)) (now (near .exit)) ⌝ }
 {
     let mut k = 0;
@@ -78,5 +76,5 @@ pub(crate) fn rows(
     let mut zero = [0u32; 64];
     let mut one = [0u32; 64];
     gives(levels, index, tree, &mut zero, &mut one, near);
-    crate::table::rows(&zero, &one, tree.groups, tree.size)
+    rows::rows(&zero, &one, tree.groups, tree.size)
 }

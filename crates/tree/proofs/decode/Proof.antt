@@ -84,7 +84,7 @@ returns-6 c =
       clear,
       inside,
       few,
-      ap (refuseAt 6) (range-wrong (c .before .before .before .before .before .before .before .before .before .before .before .args .levels .now) (2 ^ (c .before .before .before .before .before .before .before .before .before .before .before .args .n)) (c .before .first-out-of-range .result) whole (c .before .first-out-of-range .ensures) (rw all at (c .if6 .taken))),
+      ap (refuseAt 6) (range-wrong (c .before .before .before .before .before .before .before .before .before .before .before .args .levels .now) (2 ^ (c .before .before .before .before .before .before .before .before .before .before .before .args .n)) (c .before .first-out-of-range .result) whole (c .before .first-out-of-range .ensures .0) (rw all at (c .if6 .taken))),
     )
 
 search-requires : tie.Need-search-requires
@@ -97,7 +97,7 @@ search-requires c κs =
       long = whole;
       fits = rw (folding-shifted _ (size-le _ right)) at (c .before .before .before .before .if4 .left);
       few = rw (c .before .before .before .folding-size .ensures) at (c .before .before .if5 .left);
-      ranged = in-range (c .before .before .before .before .before .before .before .before .before .before .before .args .levels .now) (2 ^ (c .before .before .before .before .before .before .before .before .before .before .before .args .n)) (c .before .first-out-of-range .result) whole (c .before .first-out-of-range .ensures) (rw all at (c .if6 .left));
+      ranged = in-range (c .before .before .before .before .before .before .before .before .before .before .before .args .levels .now) (2 ^ (c .before .before .before .before .before .before .before .before .before .before .before .args .n)) (c .before .first-out-of-range .result) whole (c .before .first-out-of-range .ensures .0) (rw all at (c .if6 .left));
     }
 
 returns-7 : tie.Need-returns-7
@@ -118,7 +118,7 @@ returns-7 c =
       clear,
       inside,
       few,
-      ap (refuseAt 6) (range-right (c .before .before .before .before .before .before .before .before .before .before .before .before .args .levels .now) (2 ^ (c .before .before .before .before .before .before .before .before .before .before .before .before .args .n)) (c .before .before .first-out-of-range .result) whole (c .before .before .first-out-of-range .ensures) (rw all at (c .before .if6 .left))),
+      ap (refuseAt 6) (range-right (c .before .before .before .before .before .before .before .before .before .before .before .before .args .levels .now) (2 ^ (c .before .before .before .before .before .before .before .before .before .before .before .before .args .n)) (c .before .before .first-out-of-range .result) whole (c .before .before .first-out-of-range .ensures .0) (rw all at (c .before .if6 .left))),
     ))
 
 pub decode-spec : {M : Type 1} → statement M

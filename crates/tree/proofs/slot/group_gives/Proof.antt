@@ -28,8 +28,8 @@ add-seat c = record { fits = omega (arith, c .before .before .pre .0 .within, c 
 seat-level-requires : tie.Need-seat-level-requires Inv-loop μ-loop
 seat-level-requires c κs = (omega (arith, c .before .before .pre .0 .within, c .loop-test .taken), c .before .before .pre .0 .held _ (c .loop-test .taken))
 
-slot-gives-requires : tie.Need-slot-gives-requires Inv-loop μ-loop
-slot-gives-requires c κs = search needs
+slot-requires : tie.Need-slot-requires Inv-loop μ-loop
+slot-requires c κs = search needs
 
 mul-zero : tie.Need-mul-zero Inv-loop μ-loop
 mul-zero c = record { fits = omega (arith, c .before .before .before .before .pre .0 .within, c .before .before .loop-test .taken) }
@@ -50,10 +50,10 @@ level c =
     seatLevel (args .levels .now) (args .index .now) (args .first + c .before .before .before .before .loop .t)
 
 given : (c : tie.After-struct-known Inv-loop μ-loop)
-    → (c .before .slot-gives .result .nearest ≡ nearest (level c)) × (c .before .slot-gives .result .zero ≡ excess (level c) 0)
-    × (c .before .slot-gives .result .one ≡ excess (level c) 1)
+    → (c .before .slot .result .nearest ≡ nearest (level c)) × (c .before .slot .result .zero ≡ excess (level c) 0)
+    × (c .before .slot .result .one ≡ excess (level c) 1)
 given c =
-    let own = c .before .slot-gives .ensures in
+    let own = c .before .slot .ensures in
     let read = c .before .before .seat-level in
     let same = toZ-ofZ w32 (read .result) (sfits-of (read .ok)) ∙ read .ensures in
     (own .0 ∙ ap nearest same, own .1 ∙ ap (λ (z : ℤ). excess z 0) same, own .2 ∙ ap (λ (z : ℤ). excess z 1) same)
@@ -92,7 +92,7 @@ group-gives-spec =
     loop-holds
     add-seat
     seat-level-requires
-    slot-gives-requires
+    slot-requires
     mul-zero
     element-write-zero
     mul-one

@@ -14,7 +14,7 @@ rows-requires : tie.Need-rows-requires
 rows-requires c κs =
     let given = c .before .before .gives .ensures in
     let pre = c .before .before .before .before .before .before .pre in
-    (record { power = shape (pre .0); within = omega (arith, pre .1 .within) }, given .small-zero, given .small-one)
+    (record { shape = shape (pre .0); seats = omega (arith, pre .1 .within) }, given .small-zero .small, given .small-one .small)
 
 returns : tie.Need-returns
 returns c = ranked _ _ (c .before .before .before .gives .ensures) (c .rows .ensures)
