@@ -221,31 +221,7 @@ def records():
             got = no.text()
         out.append(given("record", count, changes) + " -> " + got)
 
-    # 7. found_line: each of the three decimal fields takes every border value once
-    border = [0]
-    for k in range(1, 10):
-        border += [10 ** k - 1, 10 ** k]
-    border.append(U32)
-    words = [0x0, U64, 0x123456789abcdef, 0xfedcba9876543210, 0x1, 0x8000000000000000, 0xf, 0x10, 0xabcdef, 0xa000000000000009]
-    rows = [(0, 0, 0, 0), (U32, U64, U32, U32)]
-    for k, number in enumerate(border):
-        rows.append((number, words[(k + 2) % len(words)], border[(k + 7) % 20], border[(k + 13) % 20]))
-    assert len(set(rows)) == len(rows)
-    for number, message, dist, visits in rows:
-        line = found_line(number, message, dist, visits)
-        out.append("found_line number=%d message=0x%x distance=%d visits=%d -> length=%d %s" % (
-            number, message, dist, visits, len(line), text_of(line)))
-
-    # 8. refused_line
-    rows = []
-    for k in range(1, 15):
-        rows.append((0, k))
-    rows += [(U32, 1), (U32, 14)]
-    for number, k in rows:
-        line = refused_line(number, k)
-        out.append("refused_line number=%d refusal=%d -> length=%d %s" % (number, k, len(line), text_of(line)))
-
-    # 9. lines
+    # 7. lines
     data = b"".join(DOC) + b"\xff" * 48
     assert len(data) == 480
     rows = []

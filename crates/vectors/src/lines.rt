@@ -1,10 +1,8 @@
-// The line of an answer, and the lines of a piece of records.
+// The lines of a piece of records.
 ghost use Prim.Native.Nat.{_≤_};
 use crate::given;
 use crate::line;
 use record::piece::Written;
-use record::text::Line;
-use refusal::Refusal;
 
 // A byte of a text: '/' for a newline.
 fn byte(b: u8) {
@@ -22,51 +20,6 @@ fn shown(text: &[u8]) {
         byte(text[i]);
         i += 1;
     }
-}
-
-// The line that came, with its length.
-fn came(line: Line) {
-    let len = line.len;
-    let bytes = line.bytes;
-    printing::number(b" -> length=", len as u64);
-    if len <= 56 {
-        shown(&bytes[..len]);
-    }
-}
-
-pub(crate) fn found_line(line: &[u8]) {
-    let distance = line::small(line, 2);
-    let visits = line::small(line, 3);
-    came(record::text::found_line(
-        line::small(line, 0),
-        line::number(line, 1),
-        distance,
-        visits,
-    ));
-}
-
-// A refusal by its number; what it names does not go into the line.
-fn refusal(number: u32) -> Refusal {
-    match number {
-        1 => Refusal::Size,
-        2 => Refusal::Length,
-        3 => Refusal::Mask,
-        4 => Refusal::Folding,
-        5 => Refusal::WideFolding,
-        6 => Refusal::Range(0),
-        7 => Refusal::NoCandidate(0),
-        8 => Refusal::Allowance,
-        9 => Refusal::Message,
-        10 => Refusal::NoRoom,
-        11 => Refusal::NotFinite(0),
-        12 => Refusal::NotZero,
-        13 => Refusal::Short,
-        _ => Refusal::NotFull,
-    }
-}
-
-pub(crate) fn refused_line(line: &[u8]) {
-    came(record::text::refused_line(line::small(line, 0), refusal(line::small(line, 1))));
 }
 
 // 1 for a byte of the buffer that is as it was before the call, and 0 for any other.

@@ -28,9 +28,7 @@ fn answer(line: &[u8], name: usize) {
         8 => assembling::give(line),
         9 => records::record(line, false),
         10 => records::record(line, true),
-        11 => lines::found_line(line),
-        12 => lines::refused_line(line),
-        13 => lines::lines(line),
+        11 => lines::lines(line),
         _ => words::answer(line),
     }
 }
@@ -41,7 +39,7 @@ fn case(line: &[u8]) {
         printing::say(line);
         let name = line::name(
             line,
-            b"new guard encode encode_levels decode level new_assembler take give read record found_line refused_line lines ",
+            b"new guard encode encode_levels decode level new_assembler take give read record lines ",
         );
         answer(line, name);
         printing::end();
