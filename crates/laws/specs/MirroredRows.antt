@@ -9,7 +9,6 @@ use native.Mathlib.Nat.{two-pow-succ}
 use native.Mathlib.Decide.{decLt}
 use native.Mathlib.Omega.{arith}
 use lib.ListN.{length, getD}
-use lib.Pow.{pow-pos}
 use Rattle.rules.specs.Below.{listBelow}
 use Rattle.laws.specs.Each.{each-at}
 use Rattle.laws.specs.Sums.{mem-at, mem-of}
@@ -28,6 +27,7 @@ module _ (cost : ℕ → ℕ → ℕ) where
   bothOf zero = 0
   bothOf (suc t) = bothOf t + (cost t 0 * 256 + (cost t 1 * 256 + 2 ^ t))
 
+  -- whatever the pattern is
   opposite : (t u : ℕ) → u < 2 ^ t → entryOf cost t u + entryOf cost t (2 ^ t - 1 - u) ≡ bothOf t
   unfolding bothOf
   opposite zero u l = let e : 2 ^ 0 - 1 - u < 2 ^ 0 = omega arith in omega (arith, entry-none cost u l, entry-none cost (2 ^ 0 - 1 - u) e)
@@ -46,20 +46,23 @@ module _ (cost : ℕ → ℕ → ℕ) where
           rw f (omega (arith, first, entry-zero cost t (2 ^ t - 1 - (u - 2 ^ t)) (omega arith), h (u - 2 ^ t) below))
 
   module _ (t : ℕ) (s : t ≤ 8) where
-    -- an entry of the row, and what is left of it to the sum
+    -- an entry of the row is that of a pattern
     entry-at : (i : ℕ) → i < 2 ^ t → (u : ℕ) × (u < 2 ^ t) × (getD (rowOf cost t) i 0 ≡ entryOf cost t u)
     entry-at i l = row-at cost t _ (mem-getD (rowOf cost t) i 0 (rw (row-length cost t) l))
 
+    -- it is not above the sum
     not-above : (i : ℕ) → i < 2 ^ t → getD (rowOf cost t) i 0 ≤ bothOf t
     not-above i l = let u = entry-at i l in omega (arith, u .2, opposite t (u .0) (u .1))
 
-    -- the row from its end, each entry taken from the sum
+    -- what is left to the sum of the entry that stands as far from the end
     abbrev left : ℕ → ℕ
     left i = bothOf t - getD (rowOf cost t) (2 ^ t - 1 - i) 0
 
+    -- the row from its end, each entry taken from the sum
     abbrev turned : List ℕ
     turned = map left (listBelow (2 ^ t) (λ i. true))
 
+    -- it rises
     turned-rising : Rising _<_ turned
     turned-rising =
         rising-map _<_ _<_ left (listBelow (2 ^ t) (λ i. true)) (λ a b i j l. falls a b (mem-at (2 ^ t) _ b j .0) l) (list-rising (2 ^ t) (λ i. true))
@@ -68,7 +71,7 @@ module _ (cost : ℕ → ℕ → ℕ) where
         falls a b h l =
             omega (arith, rising-at _<_ (rowOf cost t) 0 (row-rising cost t s) (2 ^ t - 1 - b) (2 ^ t - 1 - a) (omega arith) (omega (arith, row-length cost t)), not-above (2 ^ t - 1 - a) (omega arith))
 
-    -- it has the row's entries
+    -- it has entries of the row alone
     turned-in : (x : ℕ) → List·Memᴰ x turned → List·Memᴰ x (rowOf cost t)
     turned-in x m =
         let r = mem-map-at left (listBelow (2 ^ t) (λ i. true)) x m in
@@ -76,6 +79,7 @@ module _ (cost : ℕ → ℕ → ℕ) where
         let e : x ≡ entryOf cost t (2 ^ t - 1 - u .0) = omega (arith, r .2, u .2, opposite t (u .0) (u .1)) in
         rw e (row-of cost t (2 ^ t - 1 - u .0) (omega (arith, u .1)))
 
+    -- and all of them
     turned-all : (x : ℕ) → List·Memᴰ x (rowOf cost t) → List·Memᴰ x turned
     turned-all x m =
         let u = row-at cost t x m in

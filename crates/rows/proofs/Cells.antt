@@ -53,6 +53,7 @@ module _ {table : List (List ℕ)} (s : Shaped table) (p v : ℕ) where
       go (yes e) = rw (e, here l) (getD-set-other (getD table (p / 256) []) (p % 256) (q % 256) v 0 (λ f. n (omega arith)))
       go (no e) = rw (elsewhere (q / 256) e)
 
+  -- and the table has its shape
   pub put-shaped : p < 2048 → Shaped (put table p v)
   unfolding put
   put-shaped l = record { rows = length-set table (p / 256) _ ∙ s .rows; entries = λ o h. go o h (ℕ-discrete o (p / 256)) }

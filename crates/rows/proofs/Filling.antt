@@ -1,12 +1,12 @@
 -- The groups' rows in the table, group by group: each is stored behind those before it.
-use Prim.Native.Nat.{ℕ, suc, _+_, _*_, _%_, _^_, _≤_, _<_}
+use Prim.Native.Nat.{ℕ, _+_, _*_, _^_, _≤_, _<_}
 use mathlib.Core.Path.{_≡_, refl, sym, _∙_}
 use mathlib.Core.Logic.{inl}
-use mathlib.Core.List.{List, []}
-use native.Mathlib.Nat.{suc-mul, mul-le-mul-right, le-trans}
+use mathlib.Core.List.{List}
+use native.Mathlib.Nat.{suc-mul, mul-le-mul-right}
 use native.Mathlib.Decide.{ℕ-discrete, decLt}
 use native.Mathlib.Omega.{arith}
-use lib.ListN.{length, getD}
+use lib.ListN.{getD}
 use lib.Pow.{pow-mono, pow-pos}
 use Rattle.laws.specs.SortedRows.{rowOf, row-length}
 use Rattle.rows.specs.Adding.{Sized, adds, RowsRight}

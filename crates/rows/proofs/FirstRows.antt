@@ -1,7 +1,7 @@
 -- The rows of one slot and of two: what merging makes of entries that are in order.
 use Prim.Native.Nat.{ℕ, _+_, _*_, _≤_, _<_, min, max}
 use mathlib.Core.Path.{_≡_, sym, ap, ap₂, _∙_}
-use mathlib.Core.List.{List, [], _∷_}
+use mathlib.Core.List.{[], _∷_}
 use native.Mathlib.Decide.{decLt}
 use native.Mathlib.Omega.{arith}
 use borrow.Author.Tests.{lt-ltb, le-ltb}

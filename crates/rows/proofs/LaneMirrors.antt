@@ -1,12 +1,12 @@
 -- The upper half of each lane is what is left of its lower half to one sum: store by store, and lane by lane.
-use Prim.Native.Nat.{ℕ, _+_, _*_, _-_, _^_, _≤_, _<_}
+use Prim.Native.Nat.{ℕ, _+_, _*_, _-_, _≤_, _<_}
 use mathlib.Core.Path.{_≡_, refl, ap, _∙_}
 use mathlib.Core.Logic.{_⊎_, inl, inr, ⊎-elim}
 use mathlib.Core.List.{List}
 use native.Mathlib.Decide.{ℕ-discrete, decLt}
 use native.Mathlib.Omega.{arith}
 use lib.ListN.{getD}
-use Rattle.rows.specs.Cells.{cell, put, Shaped, Kept}
+use Rattle.rows.specs.Cells.{cell, put, Shaped}
 use Rattle.rows.specs.Lanes.{Lanes, laneDoubled, laneSum, Merged, Completed}
 use Rattle.rows.proofs.Cells.{put-same, put-other, put-shaped}
 use Rattle.rows.proofs.Filling.{place-before}

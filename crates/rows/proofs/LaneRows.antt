@@ -1,6 +1,6 @@
 -- The rows of four groups in their lanes, with one slot more.
 use Prim.Native.Nat.{ℕ, zero, suc, _+_, _*_, _-_, _^_, _≤_, _<_}
-use mathlib.Core.Path.{_≡_, refl, sym, ap, _∙_}
+use mathlib.Core.Path.{_≡_, sym, ap, _∙_}
 use mathlib.Core.List.{List}
 use native.Mathlib.Nat.{two-pow-succ, add-mul, sub-zero}
 use native.Mathlib.Omega.{arith}

@@ -7,7 +7,7 @@ use mathlib.Core.List.{List}
 use native.Mathlib.Decide.{ℕ-discrete}
 use native.Mathlib.Omega.{arith}
 use lib.Dec.{ltb}
-use lib.ListN.{length, getD}
+use lib.ListN.{getD}
 use Rattle.laws.specs.Each.{each-length, each-at}
 use Rattle.laws.specs.SortedRows.{doubled}
 use Rattle.rows.specs.Cells.{cell, put, Shaped, Room, Kept}

@@ -1,10 +1,9 @@
 -- The places of the groups' rows in the table: each lies in one row, and none overlaps another.
-use Prim.Native.Nat.{ℕ, zero, suc, _+_, _*_, _/_, _%_, _^_, _≤_, _<_}
+use Prim.Native.Nat.{ℕ, zero, suc, _+_, _*_, _%_, _^_, _≤_, _<_}
 use mathlib.Core.Path.{_≡_, refl}
 use native.Mathlib.Omega.{arith}
 use Rattle.laws.specs.Bits.{power-shifted}
 use Rattle.rows.specs.Adding.{Sized}
-use Rattle.rows.specs.Cells.{Room}
 
 -- what holds at 1, 2, 4 and 8 holds at every group size
 by-size : (P : ℕ → Type 0) → P 1 → P 2 → P 4 → P 8 → {groups size : ℕ} → Sized groups size → P size
@@ -24,6 +23,7 @@ pub record Place (size k : ℕ) : Type 0 where
   pub seats : k * size + size ≤ 64
 
 module _ {groups size : ℕ} (g : Sized groups size) where
+  -- every group has one
   pub place : {k : ℕ} → k < groups → Place size k
   place {k} l =
       by-size (λ (size : ℕ). groups * size ≤ 64 → Place size k) (λ h. omega arith) (λ h. omega arith) (λ h. omega arith) (λ h. omega arith) g (g .seats)
@@ -32,14 +32,16 @@ module _ {groups size : ℕ} (g : Sized groups size) where
   pub seat-inside : {k t : ℕ} → k < groups → t < size → k * size + t < 64
   seat-inside l h = omega (arith, place l .seats)
 
+  -- there are no more groups than seats
   pub groups-few : groups ≤ 64
   groups-few =
       by-size (λ (size : ℕ). groups * size ≤ 64 → groups ≤ 64) (λ h. omega arith) (λ h. omega arith) (λ h. omega arith) (λ h. omega arith) g (g .seats)
 
-  -- a group has one slot at least and 8 at most
+  -- a group has one slot at least
   pub size-some : 1 ≤ size
   size-some = by-size (λ (size : ℕ). 1 ≤ size) (omega arith) (omega arith) (omega arith) (omega arith) g
 
+  -- and 8 at most
   pub size-small : size ≤ 8
   size-small = by-size (λ (size : ℕ). size ≤ 8) (omega arith) (omega arith) (omega arith) (omega arith) g
 

@@ -6,6 +6,7 @@ ghost use Rattle.rows.specs.Adding.{Sized, Small, adds};
 ghost use Rattle.rows.specs.Cells.{Shaped, Room, InOrder, Placed, Filled};
 use crate::table::store;
 
+// The smaller of two.
 pub(crate) fn least(x: u32, y: u32) -> u32
     ensures { λ r. ⌜ r ≡ min x y ⌝ }
 {

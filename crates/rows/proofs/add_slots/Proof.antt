@@ -128,7 +128,7 @@ loop-again c =
       omega arith,
       length-set (l .zero) _ _ ∙ l .inv .1,
       length-set (l .one) _ _ ∙ l .inv .2,
-      rw pattern (four-more (l .inv .3) (omega (arith, l .inv .1)) (omega (arith, l .inv .2)) refl refl),
+      four-more (l .inv .3) (omega (arith, l .inv .1)) (omega (arith, l .inv .2)) refl (omega (arith, pattern)),
     )
 
 shl-entries : tie.Need-shl-entries Inv-loop μ-loop

@@ -1,6 +1,5 @@
 -- `rows::first::slot_entries` meets its contract.
-use Prim.Native.Nat.{_+_, _^_, _≤_}
-use mathlib.Core.Path.{_∙_}
+use Prim.Native.Nat.{_+_, _≤_}
 use native.Mathlib.Omega.{arith}
 use lib.Pow.{pow-mono}
 use Rattle.laws.specs.Bits.{power-shifted}
