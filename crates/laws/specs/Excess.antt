@@ -1,14 +1,19 @@
--- What a level costs at each bit: the cost of the nearer bit, and at the farther bit 1024 times the level's magnitude more.
+-- What a level costs at each bit: the cost of the nearer bit, and at the farther bit 1024 times the level's magnitude more; and so
+-- for a whole distance.
 -- (1024 is four times 256, the ideal level's magnitude, and no limit.)
-use Prim.Native.Nat.{ℕ, zero, suc, _+_, _-_, _*_, _≤_, min}
+use Prim.Native.Nat.{ℕ, zero, suc, _+_, _-_, _*_, _^_, _≤_, min}
 use mathlib.Core.Path.{_≡_, refl, sym, ap, ap₂, _∙_}
 use mathlib.Core.Bool.{true}
+use mathlib.Core.List.{List}
 use native.Mathlib.Nat.{le-trans, add-zero, mul-add, mul-comm}
 use native.Mathlib.Decide.{decLe}
 use native.Mathlib.Omega.{arith}
 use borrow.Author.Tests.{leb-true}
 use lib.IntN.{ℤ, pos, negsuc, natAbs}
-use Rattle.rules.specs.Level.{limit, inRange, gap, slotCost}
+use Rattle.rules.specs.Below.{sumBelow}
+use Rattle.rules.specs.Word.{bit}
+use Rattle.rules.specs.Level.{limit, inRange, levelAt, gap, slotCost, levelCost, distance}
+use Rattle.laws.specs.Sums.{sum-cong, sum-add, sum-mul}
 use Rattle.laws.specs.Apart.{abs-sub}
 use Rattle.laws.specs.GreatestDistance.{slot-greatest}
 
@@ -62,14 +67,14 @@ excess-le (negsuc m) zero = omega arith
 excess-le (negsuc m) (suc b) = omega arith
 
 -- of both bits one is the nearer
-pub excess-one : (level : ℤ) → min (excess level 0) (excess level 1) ≡ 0
+pub one-nearer : (level : ℤ) → min (excess level 0) (excess level 1) ≡ 0
 unfolding excess
-excess-one (pos m) = omega arith
-excess-one (negsuc m) = omega arith
+one-nearer (pos m) = omega arith
+one-nearer (negsuc m) = omega arith
 
 -- the nearer bit's cost is the less of both
 pub nearest-least : (level : ℤ) → nearest level ≡ min (slotCost level 0) (slotCost level 1)
-nearest-least level = rw (cost-split level 0, cost-split level 1) (omega (arith, excess-one level))
+nearest-least level = rw (cost-split level 0, cost-split level 1) (omega (arith, one-nearer level))
 
 -- in range, the excess is at most the limit
 pub excess-greatest : (level : ℤ) (b : ℕ) → inRange level ≡ true → excess level b ≤ limit
@@ -84,3 +89,13 @@ pub excess-one-bit : (level : ℤ) (b : ℕ) → excess level (suc b) ≡ excess
 unfolding excess
 excess-one-bit (pos m) b = refl
 excess-one-bit (negsuc m) b = refl
+
+-- a word's distance: the nearer bits' costs, which every word has, and 1024 times its excess
+pub distance-split : (n : ℕ) (levels : List ℤ) (x : ℕ)
+    → distance n (levelCost levels) x
+    ≡ sumBelow (2 ^ n) (λ i. nearest (levelAt levels i)) + 1024 * sumBelow (2 ^ n) (λ i. excess (levelAt levels i) (bit x i))
+unfolding distance
+distance-split n levels x =
+    sum-cong (2 ^ n) (λ i l. cost-split (levelAt levels i) (bit x i))
+    ∙ sum-add (2 ^ n) (λ i. nearest (levelAt levels i)) (λ i. 1024 * excess (levelAt levels i) (bit x i))
+    ∙ ap (λ (s : ℕ). sumBelow (2 ^ n) (λ i. nearest (levelAt levels i)) + s) (sum-mul (2 ^ n) 1024 (λ i. excess (levelAt levels i) (bit x i)))

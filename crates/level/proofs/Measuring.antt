@@ -1,11 +1,10 @@
 -- Measuring slot after slot: what holds after the slots below i, that the sum stays small, and what both ends answer.
-use Prim.Native.Nat.{ℕ, suc, _+_, _*_, _^_, _≤_, _<_}
+use Prim.Native.Nat.{ℕ, _+_, _*_, _≤_, _<_}
 use mathlib.Core.Path.{_≡_, refl, ap₂, _∙_}
 use mathlib.Core.Bool.{true, false, not}
 use mathlib.Core.List.{List, [], _∷_}
 use native.Mathlib.Nat.{le-trans, le-of-eq, mul-le-mul-right, not-suc-le-zero}
 use native.Mathlib.Numerals.{add-one}
-use native.Mathlib.Omega.{arith}
 use borrow.Author.Count.{below-more}
 use borrow.Author.Tests.{not-false}
 use lib.IntN.{ℤ}
@@ -22,6 +21,7 @@ pub record SoFar (levels : List ℤ) (x i sum : ℕ) : Type 0 where
   pub ranged : (k : ℕ) → k < i → not (inRange (levelAt levels k)) ≡ false
   pub summed : sum ≡ sumBelow i (λ k. levelCost levels k (bit x k))
 
+-- before the first slot
 pub none-yet : (levels : List ℤ) (x : ℕ) → SoFar levels x 0 0
 unfolding sumBelow
 none-yet levels x = record { ranged = λ k l. absurd (not-suc-le-zero l); summed = refl }

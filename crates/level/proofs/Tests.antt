@@ -1,5 +1,5 @@
 -- What the tests of a level say, of its range and of its sign, and how large the magnitude of a 32-bit number is.
-use Prim.Native.Nat.{ℕ, zero, suc, _-_, _^_, _≤_, _<_}
+use Prim.Native.Nat.{zero, suc, _-_, _^_, _≤_, _<_}
 use mathlib.Core.Path.{_≡_, refl, sym, ap, _∙_}
 use mathlib.Core.Bool.{Bool, true, false, not, _&&_, cond}
 use native.Mathlib.Omega.{arith}
@@ -32,15 +32,15 @@ pub magnitude-le : (z : ℤ) → SFits w32 z → natAbs z ≤ 2 ^ 31
 magnitude-le (pos n) f = omega (arith, f .sfits)
 magnitude-le (negsuc n) f = omega (arith, f .sfits)
 
--- above 0 bit 0 is the farther
-pub excess-zero : (z : ℤ) → cond (ltZ (pos 0) z) (natAbs z) 0 ≡ excess z 0
+-- what is picked for bit 0: above 0 it is the farther bit
+pub picked-zero : (z : ℤ) → cond (ltZ (pos 0) z) (natAbs z) 0 ≡ excess z 0
 unfolding excess
-excess-zero (pos zero) = refl
-excess-zero (pos (suc m)) = rw (lt-ltb 0 (suc m) (omega arith))
-excess-zero (negsuc m) = refl
+picked-zero (pos zero) = refl
+picked-zero (pos (suc m)) = rw (lt-ltb 0 (suc m) (omega arith))
+picked-zero (negsuc m) = refl
 
--- below 0 bit 1 is
-pub excess-one : (z : ℤ) → cond (ltZ z (pos 0)) (natAbs z) 0 ≡ excess z 1
+-- and for bit 1: below 0 it is
+pub picked-one : (z : ℤ) → cond (ltZ z (pos 0)) (natAbs z) 0 ≡ excess z 1
 unfolding excess
-excess-one (pos m) = rw (le-ltb m 0 (omega arith))
-excess-one (negsuc m) = refl
+picked-one (pos m) = rw (le-ltb m 0 (omega arith))
+picked-one (negsuc m) = refl

@@ -1,6 +1,6 @@
 -- How contracts read the distance of a word from the levels of a block: refusal 6 with the first slot out of range, or the distance.
 use Prim.Native.Nat.{ℕ, _^_, _≤_, min}
-use mathlib.Core.Path.{_≡_, ap}
+use mathlib.Core.Path.{_≡_}
 use mathlib.Core.Bool.{not}
 use mathlib.Core.List.{List, [], _∷_}
 use native.Mathlib.Nat.{min-eq-left}

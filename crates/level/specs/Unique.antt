@@ -24,6 +24,7 @@ found-injective slots r s p q e = go (ltb r slots) (ltb s slots) refl refl e
     go false true u v e = cc
     go false false u v e = omega (arith, ltb-false r slots u, ltb-false s slots v)
 
+-- what was measured
 pub measured-injective : (r s : Measured) → measuredOf r ≡ measuredOf s → r ≡ s
 measured-injective (Distance a) (Distance b) e = cc
 measured-injective (Distance a) (OutOfRange j) e = cc

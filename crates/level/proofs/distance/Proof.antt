@@ -1,4 +1,4 @@
--- `level::distance` meets its contract.
+-- `level::distance` meets its contract. Invariant: the slots below i are in range, and the sum is that of their costs.
 use Prim.Native.Nat.{ℕ, _+_, _-_, _≤_}
 use mathlib.Core.Path.{_≡_, ap, _∙_}
 use native.Mathlib.Omega.{arith}

@@ -1,6 +1,6 @@
 -- `level::cost::bit_cost` meets its contract: the cost of any bit of any 32-bit number is below 2^63.
-use Prim.Native.Nat.{ℕ, zero, suc, _+_, _*_, _^_, _≤_}
-use mathlib.Core.Path.{_≡_, refl, sym, _∙_, ap, ap₂}
+use Prim.Native.Nat.{ℕ, zero, suc, _^_, _≤_}
+use mathlib.Core.Path.{_≡_, refl}
 use mathlib.Core.Bool.{cond}
 use native.Mathlib.Nat.{mul-le-mul}
 use native.Mathlib.Omega.{arith}
@@ -11,12 +11,12 @@ use lib.IntN.{ℤ, pos, negsuc, natAbs}
 use mir.Syntax.{w32}
 use mir.Val.{SFits}
 use mir.ValLaws.{toZ-ofZ}
-use Rattle.rules.specs.Level.{slotCost}
 use Rattle.laws.specs.Excess.{beside, nearest, excess, cost-split}
 use Rattle.level.proofs.Tests.{magnitude-le}
 use Rattle.level.proofs.cost.bit_cost.Statement.{statement}
 use Rattle.level.proofs.cost.bit_cost.Tie as tie
 
+-- the nearer bit's cost of a 32-bit number
 nearest-small : (z : ℤ) → SFits w32 z → nearest z ≤ 2 ^ 62
 unfolding nearest
 nearest-small z f =

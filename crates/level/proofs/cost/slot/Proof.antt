@@ -1,6 +1,6 @@
 -- `level::cost::slot` meets its contract.
 use Prim.Native.Nat.{ℕ, _*_}
-use mathlib.Core.Path.{_≡_, _∙_, ap, ap₂}
+use mathlib.Core.Path.{_∙_, ap, ap₂}
 use mathlib.Core.Bool.{cond}
 use borrow.Author.Needs.{needs}
 use lib.IntN.{ℤ, pos, natAbs}
@@ -8,7 +8,7 @@ use lib.Signed.{ltZ}
 use mir.Syntax.{w32}
 use mir.ValLaws.{toZ-ofZ}
 use Rattle.laws.specs.Excess.{beside, nearest}
-use Rattle.level.proofs.Tests.{excess-zero, excess-one}
+use Rattle.level.proofs.Tests.{picked-zero, picked-one}
 use Rattle.level.proofs.cost.slot.Statement.{statement}
 use Rattle.level.proofs.cost.slot.Tie as tie
 
@@ -36,8 +36,8 @@ returns c =
     let m = c .before .before .before .before .magnitude .ensures ∙ ap natAbs read in
     let near = c .before .before .before .apart .ensures ∙ ap beside m in (
       c .before .before .square .ensures ∙ ap₂ _*_ near near,
-      c .before .pick .ensures ∙ ap₂ (λ (y : ℤ) (x : ℕ). cond (ltZ (pos 0) y) x 0) read m ∙ excess-zero z,
-      c .pick2 .ensures ∙ ap₂ (λ (y : ℤ) (x : ℕ). cond (ltZ y (pos 0)) x 0) read m ∙ excess-one z,
+      c .before .pick .ensures ∙ ap₂ (λ (y : ℤ) (x : ℕ). cond (ltZ (pos 0) y) x 0) read m ∙ picked-zero z,
+      c .pick2 .ensures ∙ ap₂ (λ (y : ℤ) (x : ℕ). cond (ltZ y (pos 0)) x 0) read m ∙ picked-one z,
     )
 
 pub slot-spec : {M : Type 1} → statement M
