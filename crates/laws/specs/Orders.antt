@@ -1,9 +1,9 @@
 -- Orders of refusals by parts: what an order answers where its first part refuses or is passed, and for each named order what
--- passing it says of the input. No other proof looks into an order, so that a refusal more or less is a line here.
-use Prim.Native.Nat.{ℕ, suc, _-_, _^_, _≤_, _<_}
-use mathlib.Core.Path.{_≡_, refl, sym, ap, _∙_}
+-- passing it says of the input (that of decoding stands in DecodeOrder). No other proof looks into an order.
+use Prim.Native.Nat.{ℕ, _^_, _≤_, _<_}
+use mathlib.Core.Path.{_≡_, refl, sym, ap}
 use mathlib.Core.Logic.{_↔_}
-use mathlib.Core.Bool.{Bool, true, false, not, _||_, true≢false}
+use mathlib.Core.Bool.{Bool, true, false, not, _||_}
 use mathlib.Core.Option.{Option, none, some, Option·none-ne-some}
 use mathlib.Core.List.{List, [], _∷_, _++_}
 use native.Mathlib.Omega.{arith}
@@ -11,17 +11,10 @@ use lib.Count.{ones}
 use lib.Dec.{leb, ltb, eqb}
 use lib.IntN.{ℤ}
 use lib.ListN.{length}
-use lib.Pow.{pow-pos}
-use borrow.Author.Tests.{ltb-true, ltb-false, leb-false, eqb-true, eqb-false, not-false, lt-ltb, le-ltb, lt-leb, eq-eqb}
-use Rattle.rules.specs.Below.{firstBelow}
-use Rattle.rules.specs.Level.{inRange, levelAt, levelCost}
-use Rattle.rules.specs.Folding.{group, groups}
-use Rattle.rules.specs.Walk.{fillings, walkVisits}
-use Rattle.rules.specs.Refusals.{Refusal, refused, done, answer, refuse, refuseAt, largest, isWrongSize, isEmpty, wrongSize, wrongLength, wrongMask, wrongMessage, outOfRange, noCandidate, smallAllowance}
-use Rattle.rules.specs.Orders.{codeOrder, encodeOrder, encodeLevelsOrder, foldingOrder, foldedOrder, walkOrder, decodeOrder}
-use Rattle.laws.specs.Sums.{none-at, none-of}
+use borrow.Author.Tests.{ltb-false, leb-false, eqb-true, eqb-false, not-false, le-ltb, lt-leb, eq-eqb}
+use Rattle.rules.specs.Refusals.{Refusal, refused, done, answer, refuse, refuseAt, largest, isWrongSize, wrongSize, wrongLength, wrongMask, wrongMessage}
+use Rattle.rules.specs.Orders.{codeOrder, encodeOrder, encodeLevelsOrder, foldingOrder, foldedOrder}
 use Rattle.laws.specs.Sizes.{or-left, or-right, size-some, size-le, size-right}
-use Rattle.laws.specs.FillingCount.{unfrozenIn, fillings-number}
 
 -- no refusal of an order is given
 abbrev pub Passed : List (Option Refusal) → Type 0
@@ -33,6 +26,11 @@ pub passed : {A : Type 0} (order : List (Option Refusal)) (success given : A) �
 passed [] success given e = (tt, cc)
 passed (none ∷ order) success given e = let r = passed order success given e in ((refl, r .0), r .1)
 passed (some r ∷ order) success given e = let z : _≡_ {A = ℕ} 0 1 = cc in absurd (omega arith)
+
+-- and an order that is passed ends in success
+pub passed-done : {A : Type 0} (order : List (Option Refusal)) (success : A) → Passed order → answer order success ≡ done success
+passed-done [] success p = refl
+passed-done (o ∷ order) success p = rw (p .0) (passed-done order success (p .1))
 
 -- what follows an order that is passed decides
 pub answer-after : {A : Type 0} (order more : List (Option Refusal)) (a : A) → Passed order → answer (order ++ more) a ≡ answer more a
@@ -78,7 +76,7 @@ not-refused-at number none e = refl
 not-refused-at number (some v) e = absurd (Option·none-ne-some _ (sym e))
 
 -- a refusal has a number
-abbrev Numbered : Option Refusal → ℕ → Type 0
+abbrev pub Numbered : Option Refusal → ℕ → Type 0
 Numbered o number = (r : Refusal) → o ≡ some r → r .number ≡ number
 
 -- one that names nothing has its own
@@ -87,7 +85,7 @@ own-number number true r e = cc
 own-number number false r e = absurd (Option·none-ne-some r e)
 
 -- and so has one that names what was found
-own-number-at : (number : ℕ) (o : Option ℕ) → Numbered (refuseAt number o) number
+pub own-number-at : (number : ℕ) (o : Option ℕ) → Numbered (refuseAt number o) number
 own-number-at number (some v) r e = cc
 own-number-at number none r e = absurd (Option·none-ne-some r e)
 
@@ -187,68 +185,3 @@ pub levels-parts : {A : Type 0} (n : ℕ) (slice : List ℤ) (mask message : ℕ
 unfolding encodeLevelsOrder encodeOrder codeOrder
 levels-parts n slice mask message a =
     sym (answer-again [] (wrongSize n) (wrongLength n slice ∷ []) (wrongMask n mask ∷ wrongMessage n mask message ∷ []) a)
-
--- a list of fillings is never empty
-filled : (mask : ℕ) (is : List ℕ) → isEmpty (fillings mask is) ≡ false
-filled mask is = go (fillings mask is) (fillings-number mask is)
-  where
-    go : (l : List ℕ) → length l ≡ 2 ^ unfrozenIn mask is → isEmpty l ≡ false
-    go [] e = absurd (omega (arith, pow-pos (unfrozenIn mask is)))
-    go (f ∷ fs) e = refl
-
--- so that refusal 7 is never given
-pub never-seven : (n mask folding : ℕ) → noCandidate n mask folding ≡ none
-never-seven n mask folding =
-    ap (refuseAt 7) (none-of (groups n folding) _ (λ t l. filled mask (group n folding (groups n folding - suc t))))
-
--- every level of a block is in range
-abbrev pub Ranged : ℕ → List ℤ → Type 0
-Ranged n levels = (i : ℕ) → i < 2 ^ n → inRange (levelAt levels i) ≡ true
-
--- 6 lets levels pass that are in range
-range-right : (n : ℕ) (levels : List ℤ) → (outOfRange n levels ≡ none) ↔ Ranged n levels
-range-right n levels = (
-  λ e i l. not-false _ (none-at (2 ^ n) (λ j. not (inRange (levelAt levels j))) (not-refused-at 6 _ e) i l),
-  λ ranged. ap (refuseAt 6) (none-of (2 ^ n) _ (λ i l. ap not (ranged i l))),
-)
-
-module _ (n : ℕ) (levels : List ℤ) (mask folding allowance : ℕ) where
-  -- 6, 7, 8 let pass: levels in range, and a walk that needs no more visits than are allowed
-  pub walk-right : Passed (walkOrder n levels mask folding allowance)
-      ↔ Ranged n levels × (walkVisits n mask (levelCost levels) folding ≤ allowance)
-  unfolding walkOrder
-  walk-right = (
-    λ (ranged, (candidates, (enough, _))). (range-right n levels .0 ranged, ltb-false allowance _ (not-refused 8 _ enough)),
-    λ (ranged, enough). (range-right n levels .1 ranged, (never-seven n mask folding, (ap (refuse 8) (le-ltb allowance _ enough), tt))),
-  )
-
-  -- 8 is given exactly where the levels are in range and the walk needs more visits than are allowed
-  pub walk-gives-up : {A : Type 0} (a : A) → (answer (walkOrder n levels mask folding allowance) a ≡ refused (record { number = 8; values = [] }))
-      ↔ Ranged n levels × (allowance < walkVisits n mask (levelCost levels) folding)
-  unfolding walkOrder
-  walk-gives-up a = (
-    λ e.
-        let r =
-        refused-after (outOfRange n levels ∷ noCandidate n mask folding ∷ []) (6 ∷ 7 ∷ []) (own-number-at 6 (firstBelow (2 ^ n) (λ i. not (inRange (levelAt levels i)))), (λ r e. absurd (Option·none-ne-some r (sym (never-seven n mask folding) ∙ e)), tt)) (eight ∷ []) a
-        (record { number = 8; values = [] }) refl e
-        in
-        (range-right n levels .0 (r .0 .0), ltb-true allowance _ (given _ (r .1))),
-    λ (ranged, short). rw (range-right n levels .1 ranged, never-seven n mask folding, lt-ltb allowance _ short),
-  )
-    where
-      eight : Option Refusal
-      eight = smallAllowance allowance (walkVisits n mask (levelCost levels) folding)
-
-      given : (t : Bool) → answer (refuse 8 t ∷ []) a ≡ refused (record { number = 8; values = [] }) → t ≡ true
-      given true e = refl
-      given false e = let z : _≡_ {A = ℕ} 0 1 = cc in absurd (omega arith)
-
-  -- decoding is refused for the slice, then for the code and the folding, then for the levels and the walk: 1, 2 and then
-  -- 1, 3, 4, 5 and then 6, 7, 8
-  pub decode-parts : {A : Type 0} (a : A) → answer (decodeOrder n levels mask folding allowance) a
-      ≡ answer (lentOrder n levels ++ (foldedOrder n mask folding ++ walkOrder n levels mask folding allowance)) a
-  unfolding decodeOrder foldedOrder codeOrder
-  decode-parts a =
-      sym
-      (answer-again [] (wrongSize n) (wrongLength n levels ∷ [])
-      (wrongMask n mask ∷ foldingOrder n folding ++ walkOrder n levels mask folding allowance) a)

@@ -12,7 +12,8 @@ use Rattle.rules.specs.Answers.{decoded, decodeAnswer}
 use Rattle.rules.specs.Record.{Fields, fieldsOf, blockLevels, recordSlots, slotLevel, shortRecord, notZero, readOrder, readAnswer, recordOrder, recordAnswer}
 use Rattle.laws.specs.Each.{each-length}
 use Rattle.laws.specs.Sizes.{size-right}
-use Rattle.laws.specs.Orders.{passed, parts, answer-after, answer-refused, answer-again, FoldedRight, folded-right, lentOrder, lent-right, decode-parts}
+use Rattle.laws.specs.Orders.{passed, parts, answer-after, answer-refused, answer-again, FoldedRight, folded-right, LentRight}
+use Rattle.laws.specs.DecodeOrder.{after-folded}
 
 -- 13, 1, 12: the first part of reading
 abbrev pub bytesOrder : List ℕ → List (Option Refusal)
@@ -63,16 +64,12 @@ unfolding readAnswer recordAnswer recordOrder decodeAnswer
 read-decoded bytes f e =
     let taken = read-taken bytes f e in
     let right = taken .right in
-    let walk = walkOrder (f .n) (blockLevels f) (f .mask) (f .folding) (f .allowance) in
     let success = decoded (f .n) (blockLevels f) (f .mask) (f .folding) in
-    let tests = foldedOrder (f .n) (f .mask) (f .folding) in
-    let slice = lent-right (f .n) (blockLevels f) .1 (record {
+    let slice : LentRight (f .n) (blockLevels f) = record {
       size = size-right (f .n) (right .code .some-slots) (right .code .small);
       long = block-length f right (taken .long);
-    }) in
+    } in
     rw (taken .fields)
-    (answer-after (readOrder bytes) walk success (passed (readOrder bytes) (fieldsOf bytes) f e .0)
-    ∙ sym
-    (decode-parts (f .n) (blockLevels f) (f .mask) (f .folding) (f .allowance) success
-    ∙ answer-after (lentOrder (f .n) (blockLevels f)) (tests ++ walk) success slice
-    ∙ answer-after tests walk success (folded-right (f .n) (f .mask) (f .folding) .1 right)))
+    (answer-after (readOrder bytes) (walkOrder (f .n) (blockLevels f) (f .mask) (f .folding) (f .allowance)) success
+    (passed (readOrder bytes) (fieldsOf bytes) f e .0)
+    ∙ sym (after-folded (f .n) (blockLevels f) (f .mask) (f .folding) (f .allowance) success slice right))
