@@ -10,7 +10,7 @@ use Rattle.laws.specs.Bits.{power-shifted}
 use Rattle.laws.specs.Orders.{Passed, answer-after, code-right}
 use Rattle.word.specs.Words.{wordOf}
 use Rattle.checks.specs.Verdicts.{foldedVerdict}
-use Rattle.checks.specs.Passing.{code-passed, code-refused}
+use Rattle.checks.specs.Passing.{code-passed, code-refused-first}
 use Rattle.checks.proofs.folded.Statement.{statement}
 use Rattle.checks.proofs.folded.Tie as tie
 
@@ -47,7 +47,7 @@ enum-known-verdict c = search needs
 
 returns : tie.Need-returns
 unfolding foldedVerdict foldedOrder
-returns c = code-refused _ _ (c .before .before .before .code .ensures) (foldingOrder _ _) tt (c .before .verdict .given .1)
+returns c = code-refused-first _ _ (c .before .before .before .code .ensures) (foldingOrder _ _) tt (c .before .verdict .given .1)
 
 enum-told : tie.Need-enum-told
 enum-told c = search needs

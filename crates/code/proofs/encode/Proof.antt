@@ -7,7 +7,7 @@ use Rattle.rules.specs.Orders.{codeOrder, encodeOrder}
 use Rattle.rules.specs.Answers.{encoded, encodeAnswer}
 use Rattle.laws.specs.Orders.{CodeRight, code-right, answer-after}
 use Rattle.word.specs.Words.{wordOf}
-use Rattle.checks.specs.Passing.{code-passed, code-refused}
+use Rattle.checks.specs.Passing.{code-passed, code-refused-first}
 use Rattle.code.proofs.Tests.{message-test, words-right}
 use borrow.Author.Needs.{needs}
 use Rattle.code.proofs.encode.Statement.{statement}
@@ -39,7 +39,7 @@ enum-known-verdict c = search needs
 
 returns : tie.Need-returns
 unfolding encodeAnswer encodeOrder
-returns c = code-refused _ _ (c .before .before .before .code .ensures) _ _ (c .before .verdict .given .1)
+returns c = code-refused-first _ _ (c .before .before .before .code .ensures) _ _ (c .before .verdict .given .1)
 
 enum-told : tie.Need-enum-told
 enum-told c = search needs

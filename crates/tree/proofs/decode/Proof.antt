@@ -14,7 +14,7 @@ use Rattle.laws.specs.Orders.{FoldedRight, folded-right, LentRight}
 use Rattle.laws.specs.DecodeOrder.{decode-parts, after-lent, after-folded}
 use Rattle.word.specs.Words.{wordOf}
 use Rattle.word.specs.Sizes.{slots-right}
-use Rattle.checks.specs.Passing.{folded-passed, folded-refused}
+use Rattle.checks.specs.Passing.{folded-passed, folded-refused-first}
 use Rattle.tree.specs.Search.{searchAnswer}
 use Rattle.tree.proofs.Checks.{range-right, range-wrong, in-range}
 use Rattle.tree.proofs.decode.Statement.{statement}
@@ -96,7 +96,7 @@ enum-known-verdict c = search needs
 
 returns-3 : tie.Need-returns-3
 returns-3 c =
-    folded-refused _ _ _ (c .before .before .before .folded .ensures) _ _ (c .before .verdict .given .1) ∙ sym (left (c .before .before .before .before))
+    folded-refused-first _ _ _ (c .before .before .before .folded .ensures) _ _ (c .before .verdict .given .1) ∙ sym (left (c .before .before .before .before))
 
 enum-told : tie.Need-enum-told
 enum-told c = search needs

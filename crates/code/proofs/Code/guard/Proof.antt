@@ -1,13 +1,12 @@
 -- `code::Code::guard` meets its contract: past the tests of the code, the figure of its mask.
 use Prim.Native.Nat.{ℕ}
 use mathlib.Core.Path.{_≡_, sym, _∙_, ap}
-use mathlib.Core.List.{[]}
 use native.Mathlib.Omega.{arith}
 use Rattle.rules.specs.Guard.{guardOf, guardFor}
 use Rattle.rules.specs.Refusals.{done}
 use Rattle.rules.specs.Orders.{codeOrder}
 use Rattle.rules.specs.Answers.{guardAnswer}
-use Rattle.laws.specs.Orders.{CodeRight, code-right, answer-after}
+use Rattle.laws.specs.Orders.{CodeRight, code-right, passed-done}
 use Rattle.word.specs.Words.{wordOf, fewestOf}
 use Rattle.checks.specs.Passing.{code-passed, code-refused}
 use Rattle.code.proofs.Tests.{own-size, fewest-small, guard-fits}
@@ -26,8 +25,8 @@ right : (c : tie.After-enum-told) → CodeRight (sizeAt c) (maskAt c)
 right c = code-right _ _ .0 (code-passed _ _ (c .before .before .code .ensures) (c .enum-told .given .1))
 
 after-code : (c : tie.After-enum-told) → guardAnswer (sizeAt c) (maskAt c) ≡ done (guardOf (sizeAt c) (maskAt c))
-unfolding guardAnswer codeOrder
-after-code c = answer-after (codeOrder (sizeAt c) (maskAt c)) [] (guardOf (sizeAt c) (maskAt c)) (code-right (sizeAt c) (maskAt c) .1 (right c))
+unfolding guardAnswer
+after-code c = passed-done (codeOrder (sizeAt c) (maskAt c)) (guardOf (sizeAt c) (maskAt c)) (code-right (sizeAt c) (maskAt c) .1 (right c))
 
 code-requires : tie.Need-code-requires
 code-requires c κs = search needs
@@ -36,8 +35,8 @@ enum-known-verdict : tie.Need-enum-known-verdict
 enum-known-verdict c = search needs
 
 returns : tie.Need-returns
-unfolding guardAnswer codeOrder
-returns c = code-refused _ _ (c .before .before .before .code .ensures) [] _ (c .before .verdict .given .1)
+unfolding guardAnswer
+returns c = code-refused _ _ (c .before .before .before .code .ensures) _ (c .before .verdict .given .1)
 
 enum-told : tie.Need-enum-told
 enum-told c = search needs

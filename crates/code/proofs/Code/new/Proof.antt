@@ -1,8 +1,7 @@
 -- `code::Code::new` meets its contract.
 use mathlib.Core.Path.{sym}
-use mathlib.Core.List.{[]}
 use Rattle.rules.specs.Orders.{codeOrder}
-use Rattle.laws.specs.Orders.{answer-after}
+use Rattle.laws.specs.Orders.{passed-done}
 use Rattle.word.specs.Words.{wordOf}
 use Rattle.checks.specs.Passing.{code-passed, code-refused}
 use Rattle.code.specs.Made.{madeAnswer}
@@ -17,17 +16,17 @@ enum-known-verdict : tie.Need-enum-known-verdict
 enum-known-verdict c = search needs
 
 returns : tie.Need-returns
-unfolding madeAnswer codeOrder
-returns c = code-refused _ _ (c .before .before .before .code .ensures) [] _ (c .before .verdict .given .1)
+unfolding madeAnswer
+returns c = code-refused _ _ (c .before .before .before .code .ensures) _ (c .before .verdict .given .1)
 
 enum-told : tie.Need-enum-told
 enum-told c = search needs
 
 returns-2 : tie.Need-returns-2
-unfolding madeAnswer codeOrder
+unfolding madeAnswer
 returns-2 c =
     let start = c .before .before .before .args in
-    sym (answer-after (codeOrder (start .n) (wordOf (start .frozen))) [] _ (code-passed _ _ (c .before .before .code .ensures) (c .enum-told .given .1)))
+    sym (passed-done (codeOrder (start .n) (wordOf (start .frozen))) _ (code-passed _ _ (c .before .before .code .ensures) (c .enum-told .given .1)))
 
 pub new-spec : {M : Type 1} → statement M
 new-spec = tie.close (tie.spec code-requires enum-known-verdict returns enum-told returns-2)
