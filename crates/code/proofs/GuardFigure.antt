@@ -3,10 +3,10 @@
 use Prim.Native.Nat.{ℕ}
 use mathlib.Core.Path.{_≡_, sym, ap, _∙_}
 use mathlib.Core.Option.{Option, none, some}
-use mathlib.Core.List.{[], _∷_}
 use Rattle.rules.specs.Word.{messageBits}
 use Rattle.rules.specs.Guard.{guardOf}
-use Rattle.rules.specs.Refusals.{done, wrongSize, wrongMask}
+use Rattle.rules.specs.Refusals.{done}
+use Rattle.rules.specs.Orders.{codeOrder}
 use Rattle.rules.specs.Answers.{guardAnswer}
 use Rattle.laws.specs.Answers.{Shown}
 use Rattle.laws.specs.Orders.{passed}
@@ -19,7 +19,7 @@ use Rattle.code.proofs.Code.guard.Reads as guard
 -- an answer that is a success is the guard
 guard-answered : (n mask : ℕ) (given : Option ℕ) → done given ≡ guardAnswer n mask → guardOf n mask ≡ given
 unfolding guardAnswer
-guard-answered n mask given e = passed (wrongSize n ∷ wrongMask n mask ∷ []) (guardOf n mask) given (sym e) .1
+guard-answered n mask given e = passed (codeOrder n mask) (guardOf n mask) given (sym e) .1
 
 -- a figure is the guard of the mask
 pub guard-figure : Shown guard.Learnt (λ κs a r. (figure : ℕ) → r ≡ g.the-variants.Guard figure

@@ -1,31 +1,36 @@
 -- Encoding to levels beside encoding: past 1 and 2 the answer is that of encoding, and the slice follows the answer.
 use Prim.Native.Nat.{ℕ, _^_}
-use mathlib.Core.Path.{_≡_, sym, ap}
+use mathlib.Core.Path.{_≡_, sym, ap, _∙_}
 use mathlib.Core.Bool.{true, false}
-use mathlib.Core.List.{List, [], _∷_}
+use mathlib.Core.List.{List, []}
 use lib.IntN.{ℤ}
 use lib.ListN.{length}
-use borrow.Author.Tests.{eq-eqb, ne-eqb}
+use borrow.Author.Tests.{ne-eqb}
 use Rattle.rules.specs.Level.{idealLevels}
-use Rattle.rules.specs.Refusals.{Refusal, refused, done, isWrongSize, wrongSize, wrongLength, wrongMask, wrongMessage}
+use Rattle.rules.specs.Refusals.{Refusal, refused, done, isWrongSize}
+use Rattle.rules.specs.Orders.{encodeOrder, encodeLevelsOrder}
 use Rattle.rules.specs.Answers.{Encoded, encoded, encodeAnswer, encodeLevelsAnswer, encodeLevelsLeft}
-use Rattle.laws.specs.Orders.{passed}
+use Rattle.laws.specs.Orders.{passed, answer-after, lentOrder, lent-right, levels-parts}
 
 module _ (n : ℕ) (slice : List ℤ) (mask message : ℕ) where
   pub levels-size : isWrongSize n ≡ true → refused (record { number = 1; values = [] }) ≡ encodeLevelsAnswer n slice mask message
   unfolding encodeLevelsAnswer
-  levels-size wrong = rw wrong
+  levels-size wrong = rw (levels-parts n slice mask message (encoded n mask message), wrong)
 
   pub levels-length : isWrongSize n ≡ false → (length slice ≡ 2 ^ n → ⊥)
       → refused (record { number = 2; values = [] }) ≡ encodeLevelsAnswer n slice mask message
   unfolding encodeLevelsAnswer
-  levels-length right other = rw (right, ne-eqb _ _ other)
+  levels-length right other = rw (levels-parts n slice mask message (encoded n mask message), right, ne-eqb _ _ other)
 
   -- of a right n and a slice of N, the answer of encoding
   pub levels-answer : isWrongSize n ≡ false → length slice ≡ 2 ^ n
       → encodeAnswer n mask message ≡ encodeLevelsAnswer n slice mask message
   unfolding encodeLevelsAnswer encodeAnswer
-  levels-answer right whole = rw (right, eq-eqb _ _ whole)
+  levels-answer right whole =
+      sym
+      (levels-parts n slice mask message (encoded n mask message)
+      ∙ answer-after (lentOrder n slice) (encodeOrder n mask message) (encoded n mask message)
+      (lent-right n slice .1 (record { size = right; long = whole })))
 
   -- a refusal leaves the slice as it was
   pub left-refused : (r : Refusal) → refused r ≡ encodeLevelsAnswer n slice mask message
@@ -41,6 +46,5 @@ module _ (n : ℕ) (slice : List ℤ) (mask message : ℕ) where
     e,
     rw (sym e)
         (ap (λ (w : Encoded). idealLevels n (w .x))
-        (sym (passed (wrongSize n ∷ wrongLength n slice ∷ wrongMask n mask ∷ wrongMessage n mask message ∷ []) (encoded n mask message)
-        (record { d = d; x = x }) (sym e) .1))),
+        (sym (passed (encodeLevelsOrder n slice mask message) (encoded n mask message) (record { d = d; x = x }) (sym e) .1))),
   )

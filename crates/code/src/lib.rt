@@ -7,6 +7,7 @@ ghost use Rattle.rules.specs.Answers.{encodeAnswer, guardAnswer};
 ghost use Rattle.word.specs.Words.{wordOf};
 ghost use Rattle.code.specs.Reading.{codeOf, madeOf, guardedOf, encodedOf};
 ghost use Rattle.code.specs.Made.{madeAnswer, reedMuller};
+use checks::Verdict;
 use refusal::Refusal;
 use word::Word;
 use word::count::Fewest;
@@ -53,11 +54,9 @@ impl Code {
     pub fn new(n: u32, frozen: Word) -> Made
         ensures { λ r. ⌜ madeOf r ≡ madeAnswer n (wordOf frozen) ⌝ }
     {
-        if word::wrong_size(n) {
-            return Made::Refused(Refusal::Size);
-        }
-        if word::count::reaches(frozen, word::slots(n)) {
-            return Made::Refused(Refusal::Mask);
+        let verdict = checks::code(n, frozen);
+        if let Verdict::Refused(refusal) = verdict {
+            return Made::Refused(refusal);
         }
         Made::Code(Code { n, frozen })
     }
@@ -68,11 +67,9 @@ impl Code {
     {
         let n = self.n;
         let frozen = self.frozen;
-        if word::wrong_size(n) {
-            return Guard::Refused(Refusal::Size);
-        }
-        if word::count::reaches(frozen, word::slots(n)) {
-            return Guard::Refused(Refusal::Mask);
+        let verdict = checks::code(n, frozen);
+        if let Verdict::Refused(refusal) = verdict {
+            return Guard::Refused(refusal);
         }
         let found = word::count::fewest_ones(n, frozen);
         match found {
@@ -88,11 +85,9 @@ pub fn encode(code: Code, message: Word) -> Encoded
 {
     let n = code.n;
     let frozen = code.frozen;
-    if word::wrong_size(n) {
-        return Encoded::Refused(Refusal::Size);
-    }
-    if word::count::reaches(frozen, word::slots(n)) {
-        return Encoded::Refused(Refusal::Mask);
+    let verdict = checks::code(n, frozen);
+    if let Verdict::Refused(refusal) = verdict {
+        return Encoded::Refused(refusal);
     }
     if word::count::reaches(message, word::count::unfrozen(n, frozen)) {
         return Encoded::Refused(Refusal::Message);

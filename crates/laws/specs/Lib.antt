@@ -57,4 +57,5 @@ pub mod SeatedFillings
 pub mod SeatedWalk
 pub mod FillingNumber
 pub mod Orders
+pub mod DecodeOrder
 pub mod Records

@@ -1,76 +1,75 @@
 -- Reading a record and then decoding its fields answers what the record answers.
 use Prim.Native.Nat.{ℕ, _^_}
-use mathlib.Core.Path.{_≡_, sym, ap, _∙_}
-use mathlib.Core.Bool.{Bool, false, not}
+use mathlib.Core.Path.{_≡_, refl, sym, _∙_}
 use mathlib.Core.Option.{Option}
-use mathlib.Core.List.{List, [], _∷_}
+use mathlib.Core.List.{List, [], _∷_, _++_}
 use lib.ListN.{length}
 use lib.Pow.{pow-mono}
 use lib.Seq.{length-take-le}
-use borrow.Author.Tests.{eq-eqb}
-use Rattle.rules.specs.Refusals.{Refusal, refused, done, refuse, isWrongSize, wrongSize, wrongLength, wrongMask, wrongFolding, wideFolding, outOfRange, noCandidate, smallAllowance}
-use Rattle.rules.specs.Level.{levelCost}
-use Rattle.rules.specs.Walk.{walkVisits}
-use Rattle.rules.specs.Answers.{treeOrder, decodeAnswer}
-use Rattle.rules.specs.Record.{Fields, fieldsOf, blockLevels, recordSlots, slotLevel, shortRecord, notZero, readAnswer, recordAnswer}
+use Rattle.rules.specs.Refusals.{Refusal, refused, done, answer, wrongSize, wrongMask}
+use Rattle.rules.specs.Orders.{codeOrder, foldingOrder, foldedOrder, walkOrder}
+use Rattle.rules.specs.Answers.{decoded, decodeAnswer}
+use Rattle.rules.specs.Record.{Fields, fieldsOf, blockLevels, recordSlots, slotLevel, shortRecord, notZero, readOrder, readAnswer, recordOrder, recordAnswer}
 use Rattle.laws.specs.Each.{each-length}
-use Rattle.laws.specs.Sizes.{size-le}
-use Rattle.laws.specs.Orders.{passed, answer-after, answer-refused, not-refused}
+use Rattle.laws.specs.Sizes.{size-right}
+use Rattle.laws.specs.Orders.{passed, parts, answer-after, answer-refused, answer-again, FoldedRight, folded-right, LentRight}
+use Rattle.laws.specs.DecodeOrder.{after-folded}
 
--- the order of reading: 13, 1, 12, 3, 4, 5
-abbrev readOrder : List ℕ → List (Option Refusal)
-readOrder bytes =
+-- 13, 1, 12: the first part of reading
+abbrev pub bytesOrder : List ℕ → List (Option Refusal)
+bytesOrder bytes = shortRecord bytes ∷ wrongSize (fieldsOf bytes .n) ∷ notZero bytes (fieldsOf bytes .n) ∷ []
+
+-- reading is refused for the bytes, then for the code and the folding: 13, 1, 12 and then 1, 3, 4, 5
+pub read-parts : {A : Type 0} (bytes : List ℕ) (a : A) → answer (readOrder bytes) a
+    ≡ answer (bytesOrder bytes ++ foldedOrder (fieldsOf bytes .n) (fieldsOf bytes .mask) (fieldsOf bytes .folding)) a
+unfolding readOrder foldedOrder codeOrder
+read-parts bytes a =
     let f = fieldsOf bytes in
-    shortRecord bytes ∷ wrongSize (f .n) ∷ notZero bytes (f .n) ∷ wrongMask (f .n) (f .mask) ∷ wrongFolding (f .n) (f .folding)
-    ∷ wideFolding (f .folding) ∷ []
-
--- 6, 7, 8 of a record's fields
-abbrev lastOrder : Fields → List (Option Refusal)
-lastOrder f =
-    outOfRange (f .n) (blockLevels f) ∷ noCandidate (f .n) (f .mask) (f .folding)
-    ∷ smallAllowance (f .allowance) (walkVisits (f .n) (f .mask) (levelCost (blockLevels f)) (f .folding)) ∷ []
+    sym
+    (answer-again (shortRecord bytes ∷ []) (wrongSize (f .n)) (notZero bytes (f .n) ∷ [])
+    (wrongMask (f .n) (f .mask) ∷ foldingOrder (f .n) (f .folding)) a)
 
 -- a record that reading refuses is refused so
 pub read-refused : (bytes : List ℕ) (r : Refusal) → readAnswer bytes ≡ refused r → recordAnswer bytes ≡ refused r
-unfolding readAnswer recordAnswer treeOrder
-read-refused bytes r e = answer-refused (readOrder bytes) (lastOrder (fieldsOf bytes)) _ _ r e
+unfolding readAnswer recordAnswer recordOrder
+read-refused bytes r e = answer-refused (readOrder bytes) _ _ _ r e
 
--- the levels of the N slots are N
-block-length : (bytes : List ℕ) → isWrongSize (fieldsOf bytes .n) ≡ false → length (blockLevels (fieldsOf bytes)) ≡ 2 ^ (fieldsOf bytes .n)
-unfolding fieldsOf
-block-length bytes right =
-    length-take-le _ _ (rw (each-length (slotLevel bytes) recordSlots) (pow-mono {j = 6} (size-le _ right)))
-
--- a record that reading takes answers what decoding its fields answers
-pub read-decoded : (bytes : List ℕ) (f : Fields) → readAnswer bytes ≡ done f
-    → recordAnswer bytes ≡ decodeAnswer (f .n) (blockLevels f) (f .mask) (f .folding) (f .allowance)
-unfolding readAnswer recordAnswer treeOrder decodeAnswer
-read-decoded bytes f e =
-    let read = passed (readOrder bytes) (fieldsOf bytes) f e in
-    let p = read .0 in
-    let right = not-refused 1 _ (p .1 .0) in
-    rw (← read .1)
-    (answer-after (readOrder bytes) (lastOrder (fieldsOf bytes)) _ p
-    ∙ sym
-    (answer-after
-    (wrongSize (fieldsOf bytes .n) ∷ wrongLength (fieldsOf bytes .n) (blockLevels (fieldsOf bytes)) ∷ wrongMask (fieldsOf bytes .n) (fieldsOf bytes .mask)
-    ∷ wrongFolding (fieldsOf bytes .n) (fieldsOf bytes .folding) ∷ wideFolding (fieldsOf bytes .folding) ∷ [])
-    (lastOrder (fieldsOf bytes)) _
-    (p .1 .0, (ap (λ (t : Bool). refuse 2 (not t)) (eq-eqb _ _ (block-length bytes right)), p .1 .1 .1))))
-
--- and its fields are the record's, of an n that is not refused, with every level
+-- the fields of a record that is read: the record's own, of a right code and folding, with every level
 pub record Taken (bytes : List ℕ) (f : Fields) : Type 0 where
   pub fields : fieldsOf bytes ≡ f
-  pub right : isWrongSize (f .n) ≡ false
+  pub right : FoldedRight (f .n) (f .mask) (f .folding)
   pub long : length (f .levels) ≡ recordSlots
 
 pub read-taken : (bytes : List ℕ) (f : Fields) → readAnswer bytes ≡ done f → Taken bytes f
 unfolding readAnswer fieldsOf
 read-taken bytes f e =
-    let read = passed (readOrder bytes) (fieldsOf bytes) f e in
-    let same = read .1 in
-    record {
-      fields = same;
-      right = rw (← same) (not-refused 1 _ (read .0 .1 .0));
-      long = rw (← same) (each-length (slotLevel bytes) recordSlots);
-    }
+    let g = fieldsOf bytes in
+    let tests = foldedOrder (g .n) (g .mask) (g .folding) in
+    let read = passed (bytesOrder bytes ++ tests) g f (sym (read-parts bytes g) ∙ e) in
+    let own : Taken bytes g = record {
+      fields = refl;
+      right = folded-right (g .n) (g .mask) (g .folding) .0 (parts (bytesOrder bytes) tests .0 (read .0) .1);
+      long = each-length (slotLevel bytes) recordSlots;
+    } in
+    rw (read .1) at own
+
+-- the levels of the N slots are N
+block-length : (f : Fields) → FoldedRight (f .n) (f .mask) (f .folding) → length (f .levels) ≡ recordSlots → length (blockLevels f) ≡ 2 ^ (f .n)
+block-length f right long = length-take-le _ _ (rw long (pow-mono {j = 6} (right .code .small)))
+
+-- a record that reading takes answers what decoding its fields answers
+pub read-decoded : (bytes : List ℕ) (f : Fields) → readAnswer bytes ≡ done f
+    → recordAnswer bytes ≡ decodeAnswer (f .n) (blockLevels f) (f .mask) (f .folding) (f .allowance)
+unfolding readAnswer recordAnswer recordOrder decodeAnswer
+read-decoded bytes f e =
+    let taken = read-taken bytes f e in
+    let right = taken .right in
+    let success = decoded (f .n) (blockLevels f) (f .mask) (f .folding) in
+    let slice : LentRight (f .n) (blockLevels f) = record {
+      size = size-right (f .n) (right .code .some-slots) (right .code .small);
+      long = block-length f right (taken .long);
+    } in
+    rw (taken .fields)
+    (answer-after (readOrder bytes) (walkOrder (f .n) (blockLevels f) (f .mask) (f .folding) (f .allowance)) success
+    (passed (readOrder bytes) (fieldsOf bytes) f e .0)
+    ∙ sym (after-folded (f .n) (blockLevels f) (f .mask) (f .folding) (f .allowance) success slice right))

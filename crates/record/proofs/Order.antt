@@ -1,34 +1,34 @@
--- The order of reading, 13, 1, 12, 3, 4, 5, from each of its tests on, and what an answer has to be once they are known.
+-- The order of reading, 13, 1, 12 and then the tests of the code and the folding, from each of its tests on, and what an answer has
+-- to be once they are known.
 use Prim.Native.Nat.{ℕ, _^_}
-use mathlib.Core.Path.{_≡_, refl, ap}
+use mathlib.Core.Path.{_≡_, ap}
 use mathlib.Core.Bool.{not}
 use mathlib.Core.Option.{Option}
-use mathlib.Core.List.{List, [], _∷_}
-use lib.Count.{ones}
-use lib.Dec.{leb, ltb}
+use mathlib.Core.List.{List, _∷_}
+use lib.Dec.{ltb}
 use lib.ListN.{length}
 use Rattle.rules.specs.Refusals.{Refusal, Answer, refused, done, answer, left, refuse, isWrongSize}
+use Rattle.rules.specs.Orders.{foldedOrder}
 use Rattle.rules.specs.Record.{Fields, numberAt, recordBytes, fieldsOf, notZero, readAnswer}
+use Rattle.laws.specs.Records.{read-parts}
 use Rattle.record.specs.Reading.{noFields, zerosAt}
 
--- the order's tests, by what they are of
+-- what the tests are of
 abbrev pub sizeAt : List ℕ → ℕ
 sizeAt bytes = numberAt bytes 0 1
+
+abbrev pub maskAt : List ℕ → ℕ
+maskAt bytes = numberAt bytes 8 8
 
 abbrev pub foldingAt : List ℕ → ℕ
 foldingAt bytes = numberAt bytes 1 1
 
-abbrev pub from5 : List ℕ → List (Option Refusal)
-from5 bytes = refuse 5 (ltb 3 (ones (foldingAt bytes))) ∷ []
-
-abbrev pub from4 : List ℕ → List (Option Refusal)
-from4 bytes = refuse 4 (leb (2 ^ sizeAt bytes) (foldingAt bytes)) ∷ from5 bytes
-
-abbrev pub from3 : List ℕ → List (Option Refusal)
-from3 bytes = refuse 3 (leb (2 ^ (2 ^ sizeAt bytes)) (numberAt bytes 8 8)) ∷ from4 bytes
+-- the order from each test on
+abbrev pub fromCode : List ℕ → List (Option Refusal)
+fromCode bytes = foldedOrder (sizeAt bytes) (maskAt bytes) (foldingAt bytes)
 
 abbrev pub from12 : List ℕ → List (Option Refusal)
-from12 bytes = refuse 12 (not (zerosAt bytes (2 ^ sizeAt bytes))) ∷ from3 bytes
+from12 bytes = refuse 12 (not (zerosAt bytes (2 ^ sizeAt bytes))) ∷ fromCode bytes
 
 abbrev pub from1 : List ℕ → List (Option Refusal)
 from1 bytes = refuse 1 (isWrongSize (sizeAt bytes)) ∷ from12 bytes
@@ -36,7 +36,7 @@ from1 bytes = refuse 1 (isWrongSize (sizeAt bytes)) ∷ from12 bytes
 module _ (bytes : List ℕ) where
   pub from-13 : readAnswer bytes ≡ answer (refuse 13 (ltb (length bytes) recordBytes) ∷ from1 bytes) (fieldsOf bytes)
   unfolding readAnswer fieldsOf notZero
-  from-13 = refl
+  from-13 = read-parts bytes (fieldsOf bytes)
 
   -- what is refused as the rules refuse, with no fields, is right
   pub refused-right : {a : Answer Fields} {f : Fields} {x : Refusal} → readAnswer bytes ≡ refused x → (a ≡ refused x) × (f ≡ noFields)

@@ -138,20 +138,14 @@ pub fn read(bytes: &[u8]) -> Answer
     if word::wrong_size(n) {
         return refused(Refusal::Size);
     }
-    let slots = word::slots(n);
-    if !zeros(bytes, slots) {
+    if !zeros(bytes, word::slots(n)) {
         return refused(Refusal::NotZero);
     }
     let mask = eight(bytes, 8);
-    if word::count::reaches(mask, slots) {
-        return refused(Refusal::Mask);
-    }
     let folding = one(bytes, 1) as u32;
-    if slots <= folding as usize {
-        return refused(Refusal::Folding);
-    }
-    if 3 < word::count::folding_size(folding) {
-        return refused(Refusal::WideFolding);
+    let verdict = checks::folded(n, mask, folding);
+    if let checks::Verdict::Refused(refusal) = verdict {
+        return refused(refusal);
     }
     let allowance = four(bytes, 4);
     let levels = levels(bytes);

@@ -1,4 +1,5 @@
--- Document 01, "Orders": what each call answers, and what it leaves in lent memory or hands back.
+-- Document 01, "Orders": what each call answers, the first refusal of its order or its success, and what it leaves in lent memory
+-- or hands back.
 use Prim.Native.Nat.{ℕ}
 use mathlib.Core.Option.{Option, none, some}
 use mathlib.Core.List.{List, [], _∷_}
@@ -10,7 +11,8 @@ use Rattle.rules.specs.Guard.{guardOf}
 use Rattle.rules.specs.Sample.{levelOf}
 use Rattle.rules.specs.Walk.{walkVisits}
 use Rattle.rules.specs.Assembling.{Assembler, Reading, start, takeReading, givenOut}
-use Rattle.rules.specs.Refusals.{Refusal, Answer, refused, done, answer, left, wrongSize, wrongAssembler, wrongLength, wrongMask, wrongFolding, wideFolding, outOfRange, noCandidate, smallAllowance, wrongMessage, noRoom, notFinite, notFull}
+use Rattle.rules.specs.Refusals.{Answer, refused, done, answer, left}
+use Rattle.rules.specs.Orders.{codeOrder, encodeOrder, encodeLevelsOrder, decodeOrder, newOrder, takeOrder, giveOrder}
 
 -- "Success of encode carries d and x"
 pub record Encoded : Type 0 where
@@ -23,14 +25,11 @@ encoded n mask message = record { d = spread n mask message; x = codeword n (spr
 
 -- "Encode: 1, 3, 9."
 unfoldable pub encodeAnswer : ℕ → ℕ → ℕ → Answer Encoded
-encodeAnswer n mask message =
-    answer (wrongSize n ∷ wrongMask n mask ∷ wrongMessage n mask message ∷ []) (encoded n mask message)
+encodeAnswer n mask message = answer (encodeOrder n mask message) (encoded n mask message)
 
 -- "Encode to ideal levels in a lent slice: 1, 2, 3, 9."
 unfoldable pub encodeLevelsAnswer : ℕ → List ℤ → ℕ → ℕ → Answer Encoded
-encodeLevelsAnswer n slice mask message =
-    answer (wrongSize n ∷ wrongLength n slice ∷ wrongMask n mask ∷ wrongMessage n mask message ∷ [])
-    (encoded n mask message)
+encodeLevelsAnswer n slice mask message = answer (encodeLevelsOrder n slice mask message) (encoded n mask message)
 
 -- "encoding to levels carries the same and writes all N ideal levels": the slice afterwards
 unfoldable pub encodeLevelsLeft : ℕ → List ℤ → ℕ → ℕ → List ℤ
@@ -39,7 +38,7 @@ encodeLevelsLeft n slice mask message =
 
 -- "Guard: 1, 3."
 unfoldable pub guardAnswer : ℕ → ℕ → Answer (Option ℕ)
-guardAnswer n mask = answer (wrongSize n ∷ wrongMask n mask ∷ []) (guardOf n mask)
+guardAnswer n mask = answer (codeOrder n mask) (guardOf n mask)
 
 -- 11 for a sample that has no level, "0 or 1 names the first such sample": a sample alone is sample 0
 abbrev pub orNotFinite : Option ℤ → Answer ℤ
@@ -52,11 +51,11 @@ levelAnswer s = orNotFinite (levelOf s)
 
 -- "New assembler: 1."; room is how many levels an assembler has room for
 unfoldable pub newAnswer : ℕ → ℕ → Answer Assembler
-newAnswer room n = answer (wrongSize n ∷ []) (start room n)
+newAnswer room n = answer (newOrder n) (start room n)
 
 -- "Taking a reading: 1, 10, 11."
 unfoldable pub takeAnswer : Assembler → Reading → Answer (Unit {0})
-takeAnswer a reading = answer (wrongAssembler a ∷ noRoom a reading ∷ notFinite reading ∷ []) tt
+takeAnswer a reading = answer (takeOrder a reading) tt
 
 -- "takes readings, and hands back its new state"; on refusal "the assembler" stays "unchanged"
 unfoldable pub takeLeft : Assembler → Reading → Assembler
@@ -64,7 +63,7 @@ takeLeft a reading = left (takeAnswer a reading) a (takeReading a reading)
 
 -- "Giving out levels to a lent slice: 1, 14, 2."
 unfoldable pub giveAnswer : Assembler → List ℤ → Answer (Unit {0})
-giveAnswer a slice = answer (wrongAssembler a ∷ notFull a ∷ wrongLength (a .n) slice ∷ []) tt
+giveAnswer a slice = answer (giveOrder a slice) tt
 
 -- "When all N are filled it gives out the levels"; on refusal "lent buffers" stay "unchanged": the slice afterwards
 unfoldable pub giveLeft : Assembler → List ℤ → List ℤ
@@ -88,14 +87,7 @@ unfoldable pub decoded : ℕ → List ℤ → ℕ → ℕ → Decoded
 decoded n levels mask folding =
     decodedAs n mask (levelCost levels) (walkVisits n mask (levelCost levels) folding) (leastWord n mask (levelCost levels))
 
--- "Decode: 1 to 6, then 7, 8." and "A record: 13, 1, 12, 3, 4, 5, 6, 7, 8.": the part 3 to 8 that both share
-unfoldable pub treeOrder : ℕ → List ℤ → ℕ → ℕ → ℕ → List (Option Refusal)
-treeOrder n levels mask folding allowance =
-    wrongMask n mask ∷ wrongFolding n folding ∷ wideFolding folding ∷ outOfRange n levels ∷ noCandidate n mask folding
-    ∷ smallAllowance allowance (walkVisits n mask (levelCost levels) folding) ∷ []
-
 -- "Decode: 1 to 6, then 7, 8."
 unfoldable pub decodeAnswer : ℕ → List ℤ → ℕ → ℕ → ℕ → Answer Decoded
 decodeAnswer n levels mask folding allowance =
-    answer (wrongSize n ∷ wrongLength n levels ∷ treeOrder n levels mask folding allowance)
-    (decoded n levels mask folding)
+    answer (decodeOrder n levels mask folding allowance) (decoded n levels mask folding)

@@ -15,6 +15,7 @@ pub mod Folding
 pub mod Walk
 pub mod Assembling
 pub mod Refusals
+pub mod Orders
 pub mod Answers
 pub mod Record
 pub mod Text

@@ -2,13 +2,14 @@
 use Prim.Native.Nat.{ℕ, _+_, _-_, _*_, _^_}
 use mathlib.Core.Bool.{true, not, _&&_, _||_, cond}
 use mathlib.Core.Option.{Option}
-use mathlib.Core.List.{List, [], _∷_, map}
+use mathlib.Core.List.{List, [], _∷_, _++_, map}
 use lib.IntN.{ℤ, pos, negℤ}
 use lib.Dec.{ltb, eqb}
 use lib.ListN.{length, take, drop}
 use Rattle.rules.specs.Below.{allBelow, listBelow}
-use Rattle.rules.specs.Refusals.{Refusal, Answer, answer, refuse, wrongSize, wrongMask, wrongFolding, wideFolding}
-use Rattle.rules.specs.Answers.{Decoded, decoded, treeOrder}
+use Rattle.rules.specs.Refusals.{Refusal, Answer, answer, refuse, wrongSize, wrongMask}
+use Rattle.rules.specs.Orders.{foldingOrder, walkOrder}
+use Rattle.rules.specs.Answers.{Decoded, decoded}
 
 -- "Records of 144 bytes, no header"
 abbrev pub recordBytes : ℕ
@@ -64,24 +65,28 @@ notZero bytes n =
     refuse 12
     (not (eqb (numberAt bytes 2 2) 0 && allBelow recordSlots (λ i. ltb i (2 ^ n) || eqb (numberAt bytes (16 + 2 * i) 2) 0)))
 
--- what reading a record without decoding it answers: the record's order as far as 5, then its fields
-unfoldable pub readAnswer : List ℕ → Answer Fields
-readAnswer bytes =
+-- 13, 1, 12, 3, 4, 5: the record's order as far as 5, which is what reading it without decoding refuses
+unfoldable pub readOrder : List ℕ → List (Option Refusal)
+readOrder bytes =
     let f = fieldsOf bytes in
-    answer
-    (shortRecord bytes ∷ wrongSize (f .n) ∷ notZero bytes (f .n) ∷ wrongMask (f .n) (f .mask)
-    ∷ wrongFolding (f .n) (f .folding) ∷ wideFolding (f .folding) ∷ [])
-    f
+    shortRecord bytes ∷ wrongSize (f .n) ∷ notZero bytes (f .n) ∷ wrongMask (f .n) (f .mask) ∷ foldingOrder (f .n) (f .folding)
+
+-- what reading a record answers: a refusal, or its fields
+unfoldable pub readAnswer : List ℕ → Answer Fields
+readAnswer bytes = answer (readOrder bytes) (fieldsOf bytes)
 
 -- the levels of the record's N slots; those "beyond N" are zero
 abbrev pub blockLevels : Fields → List ℤ
 blockLevels f = take (2 ^ (f .n)) (f .levels)
 
 -- "A record: 13, 1, 12, 3, 4, 5, 6, 7, 8."
+unfoldable pub recordOrder : List ℕ → List (Option Refusal)
+recordOrder bytes =
+    let f = fieldsOf bytes in
+    readOrder bytes ++ walkOrder (f .n) (blockLevels f) (f .mask) (f .folding) (f .allowance)
+
+-- what decoding a record answers: a refusal, or the decoding of its fields
 unfoldable pub recordAnswer : List ℕ → Answer Decoded
 recordAnswer bytes =
     let f = fieldsOf bytes in
-    answer
-    (shortRecord bytes ∷ wrongSize (f .n) ∷ notZero bytes (f .n)
-    ∷ treeOrder (f .n) (blockLevels f) (f .mask) (f .folding) (f .allowance))
-    (decoded (f .n) (blockLevels f) (f .mask) (f .folding))
+    answer (recordOrder bytes) (decoded (f .n) (blockLevels f) (f .mask) (f .folding))

@@ -16,7 +16,8 @@ use Rattle.rules.specs.Sample.{nearestWhole, unclipped, levelOf}
 use Rattle.rules.specs.Folding.{groupNo, group}
 use Rattle.rules.specs.Walk.{fillings, pattern, branch, candidate, insert, inOrder, candidates, visit, walk, walkOf}
 use Rattle.rules.specs.Refusals.{Answer, refused, done}
-use Rattle.rules.specs.Answers.{Encoded, Decoded, encodeAnswer, decoded, treeOrder, decodeAnswer}
+use Rattle.rules.specs.Orders.{codeOrder, encodeOrder, foldingOrder, walkOrder, decodeOrder}
+use Rattle.rules.specs.Answers.{Encoded, Decoded, encodeAnswer, decoded, decodeAnswer}
 
 -- A row, with the numbers that document 01 gives.
 pub data Row : Type 0 where
@@ -114,5 +115,5 @@ allHold (r ∷ rs) = holds r && allHold rs
 
 -- "The starred rows are one table under one proved statement about the definitions"
 pub starred-rows-hold : allHold rows ≡ true
-unfolding rows decodesRight encodeAnswer decoded treeOrder decodeAnswer sumBelow countBelow allBelow firstBelow listBelow codeBit codeword permitted spread gather idealLevels slotCost distance bestBelow leastWord groupNo group fillings pattern branch candidate insert inOrder candidates visit walk walkOf nearestWhole unclipped levelOf ones onesIn
+unfolding rows decodesRight codeOrder encodeOrder encodeAnswer decoded foldingOrder walkOrder decodeOrder decodeAnswer sumBelow countBelow allBelow firstBelow listBelow codeBit codeword permitted spread gather idealLevels slotCost distance bestBelow leastWord groupNo group fillings pattern branch candidate insert inOrder candidates visit walk walkOf nearestWhole unclipped levelOf ones onesIn
 starred-rows-hold = refl

@@ -11,6 +11,7 @@ ghost use Rattle.rules.specs.Answers.{decodeAnswer};
 ghost use Rattle.word.specs.Words.{wordOf};
 ghost use Rattle.tree.specs.Reading.{answerOf};
 ghost use Rattle.tree.specs.Search.{Searchable, searchAnswer};
+use checks::Verdict;
 use refusal::Refusal;
 use word::Word;
 
@@ -72,14 +73,9 @@ pub fn decode(n: u32, levels: &[i32], frozen: Word, folding: u32, allowance: u32
     if levels.len() != slots {
         return Answer::Refused(Refusal::Length);
     }
-    if word::count::reaches(frozen, slots) {
-        return Answer::Refused(Refusal::Mask);
-    }
-    if (1 << n) <= folding {
-        return Answer::Refused(Refusal::Folding);
-    }
-    if 3 < word::count::folding_size(folding) {
-        return Answer::Refused(Refusal::WideFolding);
+    let verdict = checks::folded(n, frozen, folding);
+    if let Verdict::Refused(refusal) = verdict {
+        return Answer::Refused(refusal);
     }
     let first = level::first_out_of_range(levels);
     if first < slots {

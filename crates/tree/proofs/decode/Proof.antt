@@ -1,125 +1,137 @@
--- `tree::decode` meets its contract: each refusal in its order, then what the search answers.
-use Prim.Native.Nat.{_^_}
-use mathlib.Core.Path.{sym, ap, _∙_}
-use native.Mathlib.Omega.{arith}
+-- `tree::decode` meets its contract: a refusal for the slice, for the code and the folding, for a level, then what the search
+-- answers.
+use Prim.Native.Nat.{ℕ, _^_}
+use mathlib.Core.Path.{_≡_, sym, ap, _∙_}
+use mathlib.Core.Bool.{false}
+use mathlib.Core.List.{List, _++_}
+use lib.IntN.{ℤ}
 use borrow.Author.Needs.{needs}
-use borrow.Author.Tests.{lt-ltb, le-ltb, le-leb, lt-leb}
-use Rattle.rules.specs.Refusals.{refuseAt}
-use Rattle.rules.specs.Answers.{decodeAnswer, treeOrder}
-use Rattle.laws.specs.Sizes.{size-le}
-use Rattle.word.specs.Sizes.{slots-right, mask-test}
+use borrow.Author.Tests.{ne-eqb}
+use Rattle.rules.specs.Refusals.{Answer, answer, refuseAt, isWrongSize}
+use Rattle.rules.specs.Orders.{foldedOrder, walkOrder}
+use Rattle.rules.specs.Answers.{Decoded, decoded, decodeAnswer}
+use Rattle.laws.specs.Orders.{FoldedRight, folded-right, LentRight}
+use Rattle.laws.specs.DecodeOrder.{decode-parts, after-lent, after-folded}
+use Rattle.word.specs.Words.{wordOf}
+use Rattle.word.specs.Sizes.{slots-right}
+use Rattle.checks.specs.Passing.{folded-passed, folded-refused-first}
 use Rattle.tree.specs.Search.{searchAnswer}
-use Rattle.tree.proofs.Checks.{length-right, length-wrong, folding-shifted, range-right, range-wrong, in-range}
+use Rattle.tree.proofs.Checks.{range-right, range-wrong, in-range}
 use Rattle.tree.proofs.decode.Statement.{statement}
 use Rattle.tree.proofs.decode.Tie as tie
+
+-- the arguments, where the slice is right
+abbrev sizeAt : tie.Else2 → ℕ
+sizeAt c = c .before .before .before .before .args .n
+
+abbrev levelsAt : tie.Else2 → List ℤ
+levelsAt c = c .before .before .before .before .args .levels .now
+
+abbrev maskAt : tie.Else2 → ℕ
+maskAt c = wordOf (c .before .before .before .before .args .frozen)
+
+abbrev foldingAt : tie.Else2 → ℕ
+foldingAt c = c .before .before .before .before .args .folding
+
+abbrev allowanceAt : tie.Else2 → ℕ
+allowanceAt c = c .before .before .before .before .args .allowance
+
+-- their answer and their success
+abbrev answerAt : tie.Else2 → Answer Decoded
+answerAt c = decodeAnswer (sizeAt c) (levelsAt c) (maskAt c) (foldingAt c) (allowanceAt c)
+
+abbrev successAt : tie.Else2 → Decoded
+successAt c = decoded (sizeAt c) (levelsAt c) (maskAt c) (foldingAt c)
+
+size : (c : tie.Else2) → isWrongSize (sizeAt c) ≡ false
+size c = sym (c .before .before .before .wrong-size .ensures) ∙ c .before .before .if1 .left
+
+all-slots : (c : tie.Else2) → c .before .slots .result ≡ 2 ^ sizeAt c
+all-slots c = slots-right _ (size c) _ (c .before .slots .ensures)
+
+lent : (c : tie.Else2) → LentRight (sizeAt c) (levelsAt c)
+lent c = record { size = size c; long = c .if2 .left ∙ all-slots c }
+
+-- what is left to answer there
+left : (c : tie.Else2) → answerAt c
+    ≡ answer (foldedOrder (sizeAt c) (maskAt c) (foldingAt c) ++ walkOrder (sizeAt c) (levelsAt c) (maskAt c) (foldingAt c) (allowanceAt c)) (successAt c)
+unfolding decodeAnswer
+left c = after-lent _ _ _ _ _ (successAt c) (lent c)
+
+-- and where the code and the folding are right
+abbrev back : tie.After-enum-told → tie.Else2
+back c = c .before .before .before
+
+right : (c : tie.After-enum-told) → FoldedRight (sizeAt (back c)) (maskAt (back c)) (foldingAt (back c))
+right c = folded-right _ _ _ .0 (folded-passed _ _ _ (c .before .before .folded .ensures) (c .enum-told .given .1))
+
+walks : (c : tie.After-enum-told) → answerAt (back c)
+    ≡ answer (walkOrder (sizeAt (back c)) (levelsAt (back c)) (maskAt (back c)) (foldingAt (back c)) (allowanceAt (back c))) (successAt (back c))
+unfolding decodeAnswer
+walks c = after-folded _ _ _ _ _ (successAt (back c)) (lent (back c)) (right c)
 
 wrong-size-requires : tie.Need-wrong-size-requires
 wrong-size-requires c κs = search needs
 
 returns : tie.Need-returns
-unfolding decodeAnswer treeOrder
-returns c = rw (sym (c .before .wrong-size .ensures) ∙ c .if1 .taken)
+unfolding decodeAnswer
+returns c = sym (decode-parts _ _ _ _ _ _ ∙ rw (sym (c .before .wrong-size .ensures) ∙ c .if1 .taken))
 
 slots-requires : tie.Need-slots-requires
 slots-requires c κs = search needs
 
 returns-2 : tie.Need-returns-2
-unfolding decodeAnswer treeOrder
+unfolding decodeAnswer
 returns-2 c =
     let right = sym (c .before .before .before .wrong-size .ensures) ∙ c .before .before .if1 .left in
-    rw (right, length-wrong _ _ (λ e. c .if2 .taken (e ∙ sym (slots-right _ right _ (c .before .slots .ensures)))))
+    sym
+    (decode-parts _ _ _ _ _ _
+    ∙ rw (right, ne-eqb _ _ (λ e. c .if2 .taken (e ∙ sym (slots-right _ right _ (c .before .slots .ensures))))))
 
-reaches-requires : tie.Need-reaches-requires
-reaches-requires c κs = search needs
+folded-requires : tie.Need-folded-requires
+folded-requires c κs = search needs
+
+enum-known-verdict : tie.Need-enum-known-verdict
+enum-known-verdict c = search needs
 
 returns-3 : tie.Need-returns-3
-unfolding decodeAnswer treeOrder
 returns-3 c =
-    let right = sym (c .before .before .before .before .before .wrong-size .ensures) ∙ c .before .before .before .before .if1 .left in
-    rw (
-      right,
-      length-right _ _ (c .before .before .if2 .left ∙ slots-right _ right _ (c .before .before .before .slots .ensures)),
-      mask-test _ right _ _ _ (c .before .before .before .slots .ensures) (c .before .reaches .ensures) ∙ c .if3 .taken,
-    )
+    folded-refused-first _ _ _ (c .before .before .before .folded .ensures) _ _ (c .before .verdict .given .1) ∙ sym (left (c .before .before .before .before))
 
-shl-if4 : tie.Need-shl-if4
-shl-if4 c = omega (arith, size-le (c .before .before .before .before .before .before .args .n) (sym (c .before .before .before .before .before .wrong-size .ensures) ∙ c .before .before .before .before .if1 .left))
-
-returns-4 : tie.Need-returns-4
-unfolding decodeAnswer treeOrder
-returns-4 c =
-    let right = sym (c .before .before .before .before .before .before .wrong-size .ensures) ∙ c .before .before .before .before .before .if1 .left in
-    let long = length-right _ _ (c .before .before .before .if2 .left ∙ slots-right _ right _ (c .before .before .before .before .slots .ensures)) in
-    let clear = mask-test _ right _ _ _ (c .before .before .before .before .slots .ensures) (c .before .before .reaches .ensures) ∙ c .before .if3 .left in
-    rw (right, long, clear, le-leb _ _ (rw (folding-shifted _ (size-le _ right)) at (c .if4 .taken)))
-
-folding-size-requires : tie.Need-folding-size-requires
-folding-size-requires c κs = search needs
-
-returns-5 : tie.Need-returns-5
-unfolding decodeAnswer treeOrder
-returns-5 c =
-    let right = sym (c .before .before .before .before .before .before .before .before .wrong-size .ensures) ∙ c .before .before .before .before .before .before .before .if1 .left in
-    let long = length-right _ _ (c .before .before .before .before .before .if2 .left ∙ slots-right _ right _ (c .before .before .before .before .before .before .slots .ensures)) in
-    let clear = mask-test _ right _ _ _ (c .before .before .before .before .before .before .slots .ensures) (c .before .before .before .before .reaches .ensures) ∙ c .before .before .before .if3 .left in
-    let inside = lt-leb _ _ (rw (folding-shifted _ (size-le _ right)) at (c .before .before .if4 .left)) in
-    rw (right, long, clear, inside, lt-ltb _ _ (rw (c .before .folding-size .ensures) at (c .if5 .taken)))
+enum-told : tie.Need-enum-told
+enum-told c = search needs
 
 first-out-of-range-requires : tie.Need-first-out-of-range-requires
 first-out-of-range-requires c κs = search needs
 
-returns-6 : tie.Need-returns-6
-unfolding decodeAnswer treeOrder
-returns-6 c =
-    let right = sym (c .before .before .before .before .before .before .before .before .before .before .wrong-size .ensures) ∙ c .before .before .before .before .before .before .before .before .before .if1 .left in
-    let long = length-right _ _ (c .before .before .before .before .before .before .before .if2 .left ∙ slots-right _ right _ (c .before .before .before .before .before .before .before .before .slots .ensures)) in
-    let clear = mask-test _ right _ _ _ (c .before .before .before .before .before .before .before .before .slots .ensures) (c .before .before .before .before .before .before .reaches .ensures) ∙ c .before .before .before .before .before .if3 .left in
-    let inside = lt-leb _ _ (rw (folding-shifted _ (size-le _ right)) at (c .before .before .before .before .if4 .left)) in
-    let few = le-ltb _ _ (rw (c .before .before .before .folding-size .ensures) at (c .before .before .if5 .left)) in
-    let all = slots-right _ right _ (c .before .before .before .before .before .before .before .before .slots .ensures) in
-    let whole = c .before .before .before .before .before .before .before .if2 .left ∙ all in
-    rw (
-      right,
-      long,
-      clear,
-      inside,
-      few,
-      ap (refuseAt 6) (range-wrong (c .before .before .before .before .before .before .before .before .before .before .before .args .levels .now) (2 ^ (c .before .before .before .before .before .before .before .before .before .before .before .args .n)) (c .before .first-out-of-range .result) whole (c .before .first-out-of-range .ensures .0) (rw all at (c .if6 .taken))),
-    )
+returns-4 : tie.Need-returns-4
+unfolding walkOrder
+returns-4 c =
+    let s = back (c .before .before) in
+    sym
+    (walks (c .before .before)
+    ∙ rw (ap (refuseAt 6) (range-wrong (levelsAt s) (2 ^ sizeAt s) _ (lent s .long) (c .before .first-out-of-range .ensures .0) (rw (all-slots s) at (c .if3 .taken)))))
 
 search-requires : tie.Need-search-requires
 search-requires c κs =
-    let right = sym (c .before .before .before .before .before .before .before .before .before .before .wrong-size .ensures) ∙ c .before .before .before .before .before .before .before .before .before .if1 .left in
-    let all = slots-right _ right _ (c .before .before .before .before .before .before .before .before .slots .ensures) in
-    let whole = c .before .before .before .before .before .before .before .if2 .left ∙ all in
+    let s = back (c .before .before) in
+    let folded = right (c .before .before) in
     record {
-      small = size-le _ right;
-      long = whole;
-      fits = rw (folding-shifted _ (size-le _ right)) at (c .before .before .before .before .if4 .left);
-      few = rw (c .before .before .before .folding-size .ensures) at (c .before .before .if5 .left);
-      ranged = in-range (c .before .before .before .before .before .before .before .before .before .before .before .args .levels .now) (2 ^ (c .before .before .before .before .before .before .before .before .before .before .before .args .n)) (c .before .first-out-of-range .result) whole (c .before .first-out-of-range .ensures .0) (rw all at (c .if6 .left));
+      small = folded .code .small;
+      long = lent s .long;
+      fits = folded .sets .fits;
+      few = folded .sets .few;
+      ranged = in-range (levelsAt s) (2 ^ sizeAt s) _ (lent s .long) (c .before .first-out-of-range .ensures .0) (rw (all-slots s) at (c .if3 .left));
     }
 
-returns-7 : tie.Need-returns-7
-unfolding decodeAnswer treeOrder searchAnswer
-returns-7 c =
-    let right = sym (c .before .before .before .before .before .before .before .before .before .before .before .wrong-size .ensures) ∙ c .before .before .before .before .before .before .before .before .before .before .if1 .left in
-    let long = length-right _ _ (c .before .before .before .before .before .before .before .before .if2 .left ∙ slots-right _ right _ (c .before .before .before .before .before .before .before .before .before .slots .ensures)) in
-    let clear = mask-test _ right _ _ _ (c .before .before .before .before .before .before .before .before .before .slots .ensures) (c .before .before .before .before .before .before .before .reaches .ensures) ∙ c .before .before .before .before .before .before .if3 .left in
-    let inside = lt-leb _ _ (rw (folding-shifted _ (size-le _ right)) at (c .before .before .before .before .before .if4 .left)) in
-    let few = le-ltb _ _ (rw (c .before .before .before .before .folding-size .ensures) at (c .before .before .before .if5 .left)) in
-    let all = slots-right _ right _ (c .before .before .before .before .before .before .before .before .before .slots .ensures) in
-    let whole = c .before .before .before .before .before .before .before .before .if2 .left ∙ all in
+returns-5 : tie.Need-returns-5
+unfolding walkOrder searchAnswer
+returns-5 c =
+    let s = back (c .before .before .before) in
     c .search .ensures
     ∙ sym
-    (rw (
-      right,
-      long,
-      clear,
-      inside,
-      few,
-      ap (refuseAt 6) (range-right (c .before .before .before .before .before .before .before .before .before .before .before .before .args .levels .now) (2 ^ (c .before .before .before .before .before .before .before .before .before .before .before .before .args .n)) (c .before .before .first-out-of-range .result) whole (c .before .before .first-out-of-range .ensures .0) (rw all at (c .before .if6 .left))),
-    ))
+    (walks (c .before .before .before)
+    ∙ rw (ap (refuseAt 6) (range-right (levelsAt s) (2 ^ sizeAt s) _ (lent s .long) (c .before .before .first-out-of-range .ensures .0) (rw (all-slots s) at (c .before .if3 .left)))))
 
 pub decode-spec : {M : Type 1} → statement M
 decode-spec =
@@ -129,13 +141,11 @@ decode-spec =
     returns
     slots-requires
     returns-2
-    reaches-requires
+    folded-requires
+    enum-known-verdict
     returns-3
-    shl-if4
-    returns-4
-    folding-size-requires
-    returns-5
+    enum-told
     first-out-of-range-requires
-    returns-6
+    returns-4
     search-requires
-    returns-7)
+    returns-5)

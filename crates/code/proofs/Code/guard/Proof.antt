@@ -1,34 +1,45 @@
--- `code::Code::guard` meets its contract.
-use mathlib.Core.Path.{sym, _∙_, ap}
+-- `code::Code::guard` meets its contract: past the tests of the code, the figure of its mask.
+use Prim.Native.Nat.{ℕ}
+use mathlib.Core.Path.{_≡_, sym, _∙_, ap}
 use native.Mathlib.Omega.{arith}
 use Rattle.rules.specs.Guard.{guardOf, guardFor}
 use Rattle.rules.specs.Refusals.{done}
+use Rattle.rules.specs.Orders.{codeOrder}
 use Rattle.rules.specs.Answers.{guardAnswer}
-use Rattle.word.specs.Words.{fewestOf}
-use Rattle.word.specs.Sizes.{right-size, mask-test}
-use Rattle.code.proofs.Tests.{fewest-small, guard-fits}
+use Rattle.laws.specs.Orders.{CodeRight, code-right, passed-done}
+use Rattle.word.specs.Words.{wordOf, fewestOf}
+use Rattle.checks.specs.Passing.{code-passed, code-refused}
+use Rattle.code.proofs.Tests.{own-size, fewest-small, guard-fits}
 use borrow.Author.Needs.{needs}
 use Rattle.code.proofs.Code.guard.Statement.{statement}
 use Rattle.code.proofs.Code.guard.Tie as tie
 
-wrong-size-requires : tie.Need-wrong-size-requires
-wrong-size-requires c κs = search needs
+-- the arguments, where the code is right, and what is left to answer there
+abbrev sizeAt : tie.After-enum-told → ℕ
+sizeAt c = c .before .before .before .args .self .n
+
+abbrev maskAt : tie.After-enum-told → ℕ
+maskAt c = wordOf (c .before .before .before .args .self .frozen)
+
+right : (c : tie.After-enum-told) → CodeRight (sizeAt c) (maskAt c)
+right c = code-right _ _ .0 (code-passed _ _ (c .before .before .code .ensures) (c .enum-told .given .1))
+
+after-code : (c : tie.After-enum-told) → guardAnswer (sizeAt c) (maskAt c) ≡ done (guardOf (sizeAt c) (maskAt c))
+unfolding guardAnswer
+after-code c = passed-done (codeOrder (sizeAt c) (maskAt c)) (guardOf (sizeAt c) (maskAt c)) (code-right (sizeAt c) (maskAt c) .1 (right c))
+
+code-requires : tie.Need-code-requires
+code-requires c κs = search needs
+
+enum-known-verdict : tie.Need-enum-known-verdict
+enum-known-verdict c = search needs
 
 returns : tie.Need-returns
 unfolding guardAnswer
-returns c = rw (sym (c .before .wrong-size .ensures) ∙ c .if1 .taken)
+returns c = code-refused _ _ (c .before .before .before .code .ensures) _ (c .before .verdict .given .1)
 
-slots-requires : tie.Need-slots-requires
-slots-requires c κs = search needs
-
-reaches-requires : tie.Need-reaches-requires
-reaches-requires c κs = search needs
-
-returns-2 : tie.Need-returns-2
-unfolding guardAnswer
-returns-2 c =
-    let right = sym (c .before .before .before .before .wrong-size .ensures) ∙ c .before .before .before .if1 .left in
-    rw (right, mask-test _ right _ _ _ (c .before .before .slots .ensures) (c .before .reaches .ensures) ∙ c .if2 .taken)
+enum-told : tie.Need-enum-told
+enum-told c = search needs
 
 fewest-ones-requires : tie.Need-fewest-ones-requires
 fewest-ones-requires c κs = search needs
@@ -36,40 +47,38 @@ fewest-ones-requires c κs = search needs
 enum-known-found : tie.Need-enum-known-found
 enum-known-found c = search needs
 
-shl-t12 : tie.Need-shl-t12
-shl-t12 c = omega (arith, fewest-small _ _ _ (sym (c .before .before .before .fewest-ones .ensures) ∙ ap fewestOf (c .before .found .given .1)))
+shl-t9 : tie.Need-shl-t9
+shl-t9 c = omega (arith, fewest-small _ _ _ (sym (c .before .before .before .fewest-ones .ensures) ∙ ap fewestOf (c .before .found .given .1)))
 
-enum-told : tie.Need-enum-told
-enum-told c = search needs
+enum-told-2 : tie.Need-enum-told-2
+enum-told-2 c = search needs
+
+returns-2 : tie.Need-returns-2
+unfolding guardOf
+returns-2 c =
+    let code = c .before .before .before .before in
+    let found = sym (c .before .before .before .fewest-ones .ensures) ∙ ap fewestOf (c .before .found .given .1) in
+    rw (guard-fits _ (fewest-small _ _ _ found))
+    (sym (after-code code ∙ ap (λ w. done (guardFor w)) (rw (own-size _ (right code .small)) at found)))
 
 returns-3 : tie.Need-returns-3
-unfolding guardAnswer guardOf
+unfolding guardOf
 returns-3 c =
-    let right = sym (c .before .before .before .before .before .before .before .before .wrong-size .ensures) ∙ c .before .before .before .before .before .before .before .if1 .left in
-    let found = sym (c .before .before .before .fewest-ones .ensures) ∙ ap fewestOf (c .before .found .given .1) in
-    rw (right, mask-test _ right _ _ _ (c .before .before .before .before .before .before .slots .ensures) (c .before .before .before .before .before .reaches .ensures) ∙ c .before .before .before .before .if2 .left, guard-fits _ (fewest-small _ _ _ found))
-    (ap (λ w. done (guardFor w)) (sym (rw (right-size _ right) at found)))
-
-returns-4 : tie.Need-returns-4
-unfolding guardAnswer guardOf
-returns-4 c =
-    let right = sym (c .before .before .before .before .before .before .before .wrong-size .ensures) ∙ c .before .before .before .before .before .before .if1 .left in
-    let found = sym (c .before .before .fewest-ones .ensures) ∙ ap fewestOf (c .enum-told .given .1) in
-    rw (right, mask-test _ right _ _ _ (c .before .before .before .before .before .slots .ensures) (c .before .before .before .before .reaches .ensures) ∙ c .before .before .before .if2 .left)
-    (ap (λ w. done (guardFor w)) (sym (rw (right-size _ right) at found)))
+    let code = c .before .before .before in
+    let found = sym (c .before .before .fewest-ones .ensures) ∙ ap fewestOf (c .enum-told2 .given .1) in
+    sym (after-code code ∙ ap (λ w. done (guardFor w)) (rw (own-size _ (right code .small)) at found))
 
 pub guard-spec : {M : Type 1} → statement M
 guard-spec =
     tie.close
     (tie.spec
-    wrong-size-requires
+    code-requires
+    enum-known-verdict
     returns
-    slots-requires
-    reaches-requires
-    returns-2
+    enum-told
     fewest-ones-requires
     enum-known-found
-    shl-t12
-    enum-told
-    returns-3
-    returns-4)
+    shl-t9
+    enum-told-2
+    returns-2
+    returns-3)

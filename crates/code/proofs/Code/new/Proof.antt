@@ -1,37 +1,32 @@
 -- `code::Code::new` meets its contract.
-use mathlib.Core.Path.{sym, _∙_}
+use mathlib.Core.Path.{sym}
+use Rattle.rules.specs.Orders.{codeOrder}
+use Rattle.laws.specs.Orders.{passed-done}
+use Rattle.word.specs.Words.{wordOf}
+use Rattle.checks.specs.Passing.{code-passed, code-refused}
 use Rattle.code.specs.Made.{madeAnswer}
-use Rattle.word.specs.Sizes.{mask-test}
 use borrow.Author.Needs.{needs}
 use Rattle.code.proofs.Code.new.Statement.{statement}
 use Rattle.code.proofs.Code.new.Tie as tie
 
-wrong-size-requires : tie.Need-wrong-size-requires
-wrong-size-requires c κs = search needs
+code-requires : tie.Need-code-requires
+code-requires c κs = search needs
+
+enum-known-verdict : tie.Need-enum-known-verdict
+enum-known-verdict c = search needs
 
 returns : tie.Need-returns
 unfolding madeAnswer
-returns c = rw (sym (c .before .wrong-size .ensures) ∙ c .if1 .taken)
+returns c = code-refused _ _ (c .before .before .before .code .ensures) _ (c .before .verdict .given .1)
 
-slots-requires : tie.Need-slots-requires
-slots-requires c κs = search needs
-
-reaches-requires : tie.Need-reaches-requires
-reaches-requires c κs = search needs
+enum-told : tie.Need-enum-told
+enum-told c = search needs
 
 returns-2 : tie.Need-returns-2
 unfolding madeAnswer
 returns-2 c =
-    let right = sym (c .before .before .before .before .wrong-size .ensures) ∙ c .before .before .before .if1 .left in
-    rw (right, mask-test _ right _ _ _ (c .before .before .slots .ensures) (c .before .reaches .ensures) ∙ c .if2 .taken)
-
-returns-3 : tie.Need-returns-3
-unfolding madeAnswer
-returns-3 c =
-    let right = sym (c .before .before .before .before .wrong-size .ensures) ∙ c .before .before .before .if1 .left in
-    rw (right, mask-test _ right _ _ _ (c .before .before .slots .ensures) (c .before .reaches .ensures) ∙ c .if2 .left)
+    let start = c .before .before .before .args in
+    sym (passed-done (codeOrder (start .n) (wordOf (start .frozen))) _ (code-passed _ _ (c .before .before .code .ensures) (c .enum-told .given .1)))
 
 pub new-spec : {M : Type 1} → statement M
-new-spec =
-    tie.close
-    (tie.spec wrong-size-requires returns slots-requires reaches-requires returns-2 returns-3)
+new-spec = tie.close (tie.spec code-requires enum-known-verdict returns enum-told returns-2)
