@@ -10,6 +10,7 @@ use lib.Seq.{getD-set-same, getD-set-other, getD-at}
 use Rattle.rows.specs.Cells.{cell, put, Shaped, Placed, Kept}
 
 module _ (table : List (List ℕ)) (start i : ℕ) (l : start % 256 + i < 256) where
+  -- the row and the place in it
   row-of : (start + i) / 256 ≡ start / 256
   row-of = omega arith
 
@@ -31,10 +32,12 @@ pub shaped-none : Shaped (replicate 8 (replicate 256 0))
 shaped-none = record { rows = refl; entries = λ o l. ap length (getD-replicate 8 o (replicate 256 0) [] l) }
 
 module _ {table : List (List ℕ)} (s : Shaped table) (p v : ℕ) where
+  -- the row that the place lies in
   here : p < 2048 → getD (put table p v) (p / 256) [] ≡ set (getD table (p / 256) []) (p % 256) v
   unfolding put
   here l = getD-set-same table (p / 256) _ [] (omega (arith, s .rows))
 
+  -- any other row
   elsewhere : (o : ℕ) → o ≢ p / 256 → getD (put table p v) o [] ≡ getD table o []
   unfolding put
   elsewhere o n = getD-set-other table (p / 256) o _ [] n

@@ -41,18 +41,18 @@ four-merged p q z o l = go (decLt z o) (decLt (q + z) (p + o)) (decLt (p + z) (q
     go (no a) b (no c) =
         rw (le-ltb (p + z) (p + o) (omega arith), le-ltb (p + z) (q + o) (omega arith)) (four-alike (omega arith) (omega arith) (omega arith) (omega arith))
 
-module _ (cost : ℕ → ℕ → ℕ) {low high : ℕ} (own : InOrder cost 0 low high) where
+module _ (adding : ℕ → ℕ → ℕ) {low high : ℕ} (own : InOrder adding 0 low high) where
   -- the row of one slot
-  pub one-row : low ∷ high ∷ [] ≡ rowOf cost 1
+  pub one-row : low ∷ high ∷ [] ≡ rowOf adding 1
   unfolding rowOf
   one-row =
       ap₂ (λ (a b : ℕ). a ∷ b ∷ []) (omega (arith, own .lower)) (omega (arith, own .higher))
-      ∙ sym (pair-merged (0 + cost 0 0 * 256) (0 + (cost 0 1 * 256 + 1)))
+      ∙ sym (pair-merged (0 + adding 0 0 * 256) (0 + (adding 0 1 * 256 + 1)))
 
   -- the row of two slots
-  pub two-row : {next last : ℕ} → InOrder cost 1 next last
-      → ((low + next) ∷ min (high + next) (low + last) ∷ max (high + next) (low + last) ∷ (high + last) ∷ []) ≡ rowOf cost 2
+  pub two-row : {next last : ℕ} → InOrder adding 1 next last
+      → ((low + next) ∷ min (high + next) (low + last) ∷ max (high + next) (low + last) ∷ (high + last) ∷ []) ≡ rowOf adding 2
   unfolding rowOf
   two-row second =
       rw (second .lower, second .higher)
-      (sym (ap (doubled (cost 1 0 * 256) (cost 1 1 * 256 + 2)) (sym one-row) ∙ four-merged low high (cost 1 0 * 256) (cost 1 1 * 256 + 2) (omega (arith, own .lower, own .higher))))
+      (sym (ap (doubled (adding 1 0 * 256) (adding 1 1 * 256 + 2)) (sym one-row) ∙ four-merged low high (adding 1 0 * 256) (adding 1 1 * 256 + 2) (omega (arith, own .lower, own .higher))))

@@ -38,49 +38,57 @@ module _ {zeros ones : List ℕ} {group size t : ℕ} (few : t < size) (sized : 
   start k = sym (add-mul group k (2 ^ size))
 
   -- what the group's slots add
-  abbrev cost : ℕ → ℕ → ℕ → ℕ
-  cost k = adds zeros ones ((group + k) * size)
+  abbrev adding : ℕ → ℕ → ℕ → ℕ
+  adding k = adds zeros ones ((group + k) * size)
 
+  -- a group has 8 slots at most
   narrow : t < 8
   narrow = omega (arith, size-small sized)
 
-  cost-small : (k : ℕ) → k < 4 → (i b : ℕ) → i < size → cost k i b ≤ 1048575
-  cost-small k h i zero l = omega (arith, low ((group + k) * size + i) (omega (arith, place sized {k = group + k} (omega arith) .seats)))
-  cost-small k h i (suc b) l = omega (arith, high ((group + k) * size + i) (omega (arith, place sized {k = group + k} (omega arith) .seats)))
+  -- which takes 20 bits
+  adding-small : (k : ℕ) → k < 4 → (i b : ℕ) → i < size → adding k i b ≤ 1048575
+  adding-small k h i zero l = omega (arith, low ((group + k) * size + i) (omega (arith, place sized {k = group + k} (omega arith) .seats)))
+  adding-small k h i (suc b) l = omega (arith, high ((group + k) * size + i) (omega (arith, place sized {k = group + k} (omega arith) .seats)))
 
-  entry : (k i : ℕ) → k < 4 → i < 2 ^ t → cell from (group * 2 ^ size + k * 2 ^ size + i) ≡ getD (rowOf (cost k) t) i 0
+  -- the entries of a lane are those of its group's row
+  entry : (k i : ℕ) → k < 4 → i < 2 ^ t → cell from (group * 2 ^ size + k * 2 ^ size + i) ≡ getD (rowOf (adding k) t) i 0
   entry k i h l = rw (start k) (built (group + k) i (omega arith) (omega arith) l)
 
+  -- they leave room for one slot more
   entry-small : (k i : ℕ) → k < 4 → i < 2 ^ t → cell from (group * 2 ^ size + k * 2 ^ size + i) < (t * 1048575 + 1) * 256
   entry-small k i h l =
       rw (entry k i h l)
-      (row-bound (cost k) t 1048575 (omega (arith, narrow)) (λ j b c. cost-small k h j b (omega arith)) _ (mem-getD (rowOf (cost k) t) i 0 (rw (row-length (cost k) t) l)))
+      (row-bound (adding k) t 1048575 (omega (arith, narrow)) (λ j b c. adding-small k h j b (omega arith)) _ (mem-getD (rowOf (adding k) t) i 0 (rw (row-length (adding k) t) l)))
 
+  -- what both bits of a slot add
   slot-small : (k : ℕ) → k < 4 → getD x k 0 + getD y k 0 ≤ 1048575 * 512 + 2 ^ 7
   slot-small k h =
       let p : 2 ^ t ≤ 2 ^ 7 = pow-mono {j = 7} (omega (arith, narrow)) in
-      omega (arith, four .first k h, four .second k h, cost-small k h t 0 few, cost-small k h t 1 few)
+      omega (arith, four .first k h, four .second k h, adding-small k h t 0 few, adding-small k h t 1 few)
 
-  lane-row : (k : ℕ) → k < 4 → lane from (group * 2 ^ size + k * 2 ^ size) (2 ^ t) ≡ rowOf (cost k) t
-  lane-row k h = sym (each-all _ 0 (rowOf (cost k) t) (2 ^ t) (row-length (cost k) t) (λ j l. sym (entry k j h l)))
+  -- the lane is the row
+  lane-row : (k : ℕ) → k < 4 → lane from (group * 2 ^ size + k * 2 ^ size) (2 ^ t) ≡ rowOf (adding k) t
+  lane-row k h = sym (each-all _ 0 (rowOf (adding k) t) (2 ^ t) (row-length (adding k) t) (λ j l. sym (entry k j h l)))
 
   -- the row of a lane with slot t
-  lane-doubled : (k : ℕ) → k < 4 → laneDoubled from (group * 2 ^ size) (2 ^ size) (2 ^ t) x y k ≡ rowOf (cost k) (suc t)
+  lane-doubled : (k : ℕ) → k < 4 → laneDoubled from (group * 2 ^ size) (2 ^ size) (2 ^ t) x y k ≡ rowOf (adding k) (suc t)
   unfolding rowOf
   lane-doubled k h = rw (four .first k h, four .second k h, lane-row k h)
 
+  -- it has twice the entries
   twice : 2 ^ t + 2 ^ t ≡ 2 ^ suc t
   twice = omega (arith, two-pow-succ t)
 
+  -- and is its own mirror image
   mirrored : (k i : ℕ) → k < 4 → i < 2 ^ t
       → getD (laneDoubled from (group * 2 ^ size) (2 ^ size) (2 ^ t) x y k) i 0 + getD (laneDoubled from (group * 2 ^ size) (2 ^ size) (2 ^ t) x y k) (2 ^ t + 2 ^ t - 1 - i) 0
       ≡ laneSum from (group * 2 ^ size) (2 ^ size) (2 ^ t) x y k
   unfolding bothOf
   mirrored k i h l =
       let some = pow-pos t in
-      let own = rw (sub-zero (2 ^ t - 1)) at (row-mirrored (cost k) t (omega (arith, narrow)) 0 some) in
+      let own = rw (sub-zero (2 ^ t - 1)) at (row-mirrored (adding k) t (omega (arith, narrow)) 0 some) in
       rw (lane-doubled k h, twice)
-      (row-mirrored (cost k) (suc t) narrow i (omega (arith, twice))
+      (row-mirrored (adding k) (suc t) narrow i (omega (arith, twice))
       ∙ omega (arith, own, entry k 0 h some, entry k (2 ^ t - 1) h (omega arith), four .first k h, four .second k h))
 
   -- the lanes are ready for slot t

@@ -98,6 +98,7 @@ module _ {from : List (List ℕ)} {first entries m : ℕ} {zeros ones : List ℕ
           (omega (arith, lanes .small k a h (omega arith)), omega (arith, lanes .small k (t - a) h (omega arith))),
         )
 
+    -- the place that it stores at
     inside : (k : ℕ) → k < 4 → first + k * entries + t < 2048
     inside k h = let p = lanes .place k h in omega (arith, p .inside, p .edge, lanes .room)
 

@@ -25,10 +25,10 @@ pub record Room (start n : ℕ) : Type 0 where
   pub inside : start < 2048
   pub edge : start % 256 + n ≤ 256
 
--- the entries of slot t under the cost of a slot and a bit, of which bit 1 has the pattern 2 ^ t, in order
-pub record InOrder (cost : ℕ → ℕ → ℕ) (t low high : ℕ) : Type 0 where
-  pub lower : low ≡ min (cost t 0 * 256) (cost t 1 * 256 + 2 ^ t)
-  pub higher : high ≡ max (cost t 0 * 256) (cost t 1 * 256 + 2 ^ t)
+-- the entries of slot t under what a slot's bit adds, of which bit 1 has the pattern 2 ^ t, in order
+pub record InOrder (adding : ℕ → ℕ → ℕ) (t low high : ℕ) : Type 0 where
+  pub lower : low ≡ min (adding t 0 * 256) (adding t 1 * 256 + 2 ^ t)
+  pub higher : high ≡ max (adding t 0 * 256) (adding t 1 * 256 + 2 ^ t)
 
 -- `row` was stored from `start` on, and all else is as it was
 pub record Placed (old : List (List ℕ)) (start : ℕ) (row : List ℕ) (new : List (List ℕ)) : Type 0 where
