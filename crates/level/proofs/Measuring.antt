@@ -1,5 +1,5 @@
 -- Measuring slot after slot: what holds after the slots below i, that the sum stays small, and what both ends answer.
-use Prim.Native.Nat.{ℕ, _+_, _*_, _≤_, _<_}
+use Prim.Native.Nat.{ℕ, _+_, _*_, _^_, _≤_, _<_}
 use mathlib.Core.Path.{_≡_, refl, ap₂, _∙_}
 use mathlib.Core.Bool.{true, false, not}
 use mathlib.Core.List.{List, [], _∷_}
@@ -11,7 +11,7 @@ use lib.IntN.{ℤ}
 use Rattle.rules.specs.Below.{sumBelow}
 use Rattle.rules.specs.Word.{bit}
 use Rattle.rules.specs.Level.{limit, inRange, levelAt, levelCost, slotCost}
-use Rattle.rules.specs.Refusals.{refused, done}
+use Rattle.rules.specs.Refusals.{refused, done, largest}
 use Rattle.laws.specs.GreatestDistance.{slot-greatest}
 use Rattle.laws.specs.Sums.{sum-le, sum-const, some-of, none-of}
 use Rattle.level.specs.Measuring.{measuredBelow}
@@ -38,8 +38,8 @@ module _ {levels : List ℤ} {x i sum : ℕ} (before : SoFar levels x i sum) whe
         summed = ap₂ _+_ (before .summed) (isCost ∙ rw isBit);
       })
 
-  -- no distance is larger than 64 greatest costs
-  pub sum-small : i ≤ 64 → sum ≤ 64 * ((limit + 256) * (limit + 256))
+  -- no sum is larger than the greatest cost for each slot of the largest block
+  pub sum-small : i ≤ 2 ^ largest → sum ≤ 2 ^ largest * ((limit + 256) * (limit + 256))
   sum-small l =
       rw (before .summed)
       (le-trans (sum-le i (λ k k<i. slot-greatest (levelAt levels k) (bit x k) (not-false _ (before .ranged k k<i))))
