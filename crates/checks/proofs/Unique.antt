@@ -1,6 +1,6 @@
 -- No second answer: of each public function, two results that meet its contract are equal.
 -- The contracts are those of src/ themselves, as the check reads them: a weaker one has no such theorem.
-use Rattle.laws.specs.Answers.{OneResult, one-answer}
+use Rattle.laws.specs.answers.OneAnswer.{OneResult, one-answer}
 use Rattle.checks.specs.Unique.{verdict-injective}
 use Rattle.checks.proofs.code.Reads as code
 use Rattle.checks.proofs.folded.Reads as folded

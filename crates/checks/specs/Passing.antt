@@ -5,7 +5,7 @@ use mathlib.Core.Option.{Option}
 use mathlib.Core.List.{List, [], _++_, append-nil}
 use Rattle.rules.specs.Refusals as rules
 use Rattle.rules.specs.Orders.{codeOrder, foldedOrder}
-use Rattle.laws.specs.Orders.{Passed, passed, answer-refused}
+use Rattle.laws.specs.answers.Orders.{Passed, passed, answer-refused}
 use Rattle.refusal.specs.Number.{refusalOf}
 use Rattle.refusal.specs.declared.Refusal.{Refusal}
 use Rattle.checks.specs.Verdicts.{verdictOf, codeVerdict, foldedVerdict}

@@ -8,9 +8,9 @@ use Rattle.rules.specs.Guard.{guardOf}
 use Rattle.rules.specs.Refusals.{done}
 use Rattle.rules.specs.Orders.{codeOrder}
 use Rattle.rules.specs.Answers.{guardAnswer}
-use Rattle.laws.specs.Answers.{Shown}
-use Rattle.laws.specs.Orders.{passed}
-use Rattle.laws.specs.LeastBelow.{no-guard}
+use Rattle.laws.specs.answers.OneAnswer.{Shown}
+use Rattle.laws.specs.answers.Orders.{passed}
+use Rattle.laws.specs.guard.LeastBelow.{no-guard}
 use Rattle.word.specs.Words.{wordOf}
 use Rattle.code.specs.Reading.{guardedOf}
 use Rattle.code.specs.declared.Guard as g

@@ -10,7 +10,7 @@ use Rattle.rules.specs.Level.{idealLevels}
 use Rattle.rules.specs.Refusals.{Refusal, refused, done, isWrongSize}
 use Rattle.rules.specs.Orders.{encodeOrder, encodeLevelsOrder}
 use Rattle.rules.specs.Answers.{Encoded, encoded, encodeAnswer, encodeLevelsAnswer, encodeLevelsLeft}
-use Rattle.laws.specs.Orders.{passed, answer-after, lentOrder, lent-right, levels-parts}
+use Rattle.laws.specs.answers.Orders.{passed, answer-after, lentOrder, lent-right, levels-parts}
 
 module _ (n : ℕ) (slice : List ℤ) (mask message : ℕ) where
   pub levels-size : isWrongSize n ≡ true → refused (record { number = 1; values = [] }) ≡ encodeLevelsAnswer n slice mask message

@@ -11,9 +11,9 @@ use Rattle.rules.specs.Refusals.{largest}
 use Rattle.rules.specs.Word.{unfrozen, messageBits, spread, codeword}
 use Rattle.rules.specs.Answers.{Encoded, encoded}
 use Rattle.rules.specs.Guard.{fewestOnes}
-use Rattle.laws.specs.Matrix.{codeword-longer}
-use Rattle.laws.specs.Message.{spread-lt}
-use Rattle.laws.specs.LeastBelow.{least-some-at}
+use Rattle.laws.specs.code.Matrix.{codeword-longer}
+use Rattle.laws.specs.code.Message.{spread-lt}
+use Rattle.laws.specs.guard.LeastBelow.{least-some-at}
 use Rattle.word.specs.Words.{sizeOf}
 
 module _ (n : ℕ) (small : n ≤ largest) where

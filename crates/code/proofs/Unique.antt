@@ -1,7 +1,7 @@
 -- No second answer: of each public function, two results that meet its contract are equal; of encoding to levels the slice too.
 -- The contracts are those of src/ themselves, as the check reads them: a weaker one has no such theorem.
 use denote.Ref.{now}
-use Rattle.laws.specs.Answers.{OneResult, OneOutcome, one-answer}
+use Rattle.laws.specs.answers.OneAnswer.{OneResult, OneOutcome, one-answer}
 use Rattle.code.specs.Unique.{code-injective, made-injective, guarded-injective, encoded-injective}
 use Rattle.code.proofs.Code.reed_muller.Reads as reed-muller
 use Rattle.code.proofs.Code.new.Reads as new

@@ -3,7 +3,7 @@
 use Prim.Native.Nat.{ℕ}
 use Rattle.rules.specs.Refusals.{Answer, answer}
 use Rattle.rules.specs.Orders.{codeOrder}
-use Rattle.laws.specs.ReedMuller.{rmMask}
+use Rattle.laws.specs.guard.ReedMuller.{rmMask}
 
 -- an n with a frozen mask
 pub record NumberAndMask : Type 0 where

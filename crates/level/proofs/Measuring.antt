@@ -12,8 +12,8 @@ use Rattle.rules.specs.Below.{sumBelow}
 use Rattle.rules.specs.Word.{bit}
 use Rattle.rules.specs.Level.{limit, inRange, levelAt, levelCost, slotCost}
 use Rattle.rules.specs.Refusals.{refused, done, largest}
-use Rattle.laws.specs.GreatestDistance.{slot-greatest}
-use Rattle.laws.specs.Sums.{sum-le, sum-const, some-of, none-of}
+use Rattle.laws.specs.distance.GreatestDistance.{slot-greatest}
+use Rattle.laws.specs.numbers.Sums.{sum-le, sum-const, some-of, none-of}
 use Rattle.level.specs.Measuring.{measuredBelow}
 
 -- after the slots below i: all of them are in range, and the sum is that of their costs

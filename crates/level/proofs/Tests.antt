@@ -12,7 +12,7 @@ use mir.ValLaws.{toZ-ofZ}
 use borrow.Author.Needs.{sfits-of}
 use borrow.Author.Tests.{leb-true, leb-false, le-leb, lt-leb, lt-ltb, le-ltb}
 use Rattle.rules.specs.Level.{limit, inRange}
-use Rattle.laws.specs.Excess.{excess}
+use Rattle.laws.specs.distance.Excess.{excess}
 
 -- the range as two signed tests
 pub range-tests : (z : ℤ) → inRange z ≡ (leZ (negsuc (limit - 1)) z && leZ z (pos limit))

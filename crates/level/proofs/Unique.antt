@@ -1,7 +1,7 @@
 -- No second answer: of each public function, two results that meet its contract are equal.
 -- The contracts are those of src/ themselves, as the check reads them: a weaker one has no such theorem.
 use mathlib.Core.Path.{sym, _∙_}
-use Rattle.laws.specs.Answers.{OneResult, one-answer}
+use Rattle.laws.specs.answers.OneAnswer.{OneResult, one-answer}
 use Rattle.level.specs.Unique.{found-injective, measured-injective, slot-injective}
 use Rattle.level.proofs.ideal.Reads as ideal
 use Rattle.level.proofs.magnitude.Reads as magnitude

@@ -4,7 +4,7 @@ ghost use mathlib.Core.Path.{_≡_};
 ghost use mathlib.Core.Bool.{cond};
 ghost use Prim.Native.Nat.{_+_, _-_, _*_};
 ghost use Rattle.rules.specs.Level.{slotCost};
-ghost use Rattle.laws.specs.Excess.{nearest, excess};
+ghost use Rattle.laws.specs.distance.Excess.{nearest, excess};
 use crate::Slot;
 use crate::magnitude;
 

@@ -7,8 +7,8 @@ use borrow.Author.Tests.{ltb-false}
 use lib.Dec.{ltb}
 use lib.Pow.{pow-mono}
 use Rattle.rules.specs.Refusals.{isWrongSize, largest}
-use Rattle.laws.specs.Bits.{power-shifted}
-use Rattle.laws.specs.Sizes.{or-left, or-right, size-le}
+use Rattle.laws.specs.numbers.Bits.{power-shifted}
+use Rattle.laws.specs.answers.Sizes.{or-left, or-right, size-le}
 use Rattle.light.specs.Values.{room}
 use Rattle.light.specs.Steps.{isWrong}
 

@@ -1,7 +1,7 @@
 -- No second answer: of each public function, two results that meet its contract are equal; of giving the levels out the slice too.
 -- The contracts are those of src/ themselves, as the check reads them: a weaker one has no such theorem.
 use denote.Ref.{now}
-use Rattle.laws.specs.Answers.{OneResult, OneOutcome}
+use Rattle.laws.specs.answers.OneAnswer.{OneResult, OneOutcome}
 use Rattle.light.specs.Unique.{one-level, one-start, one-taken, one-given}
 use Rattle.light.proofs.level.Reads as level
 use Rattle.light.proofs.Assembler.new.Reads as new

@@ -9,7 +9,7 @@ use Rattle.rules.specs.Answers.{levelAnswer, takeAnswer, takeLeft}
 use Rattle.refusal.specs.declared.Refusal.{Refusal}
 use Rattle.refusal.specs.Number.{refusalOf}
 use Rattle.refusal.specs.Unique.{refusal-injective}
-use Rattle.laws.specs.Answers.{one-answer}
+use Rattle.laws.specs.answers.OneAnswer.{one-answer}
 use Rattle.light.specs.Values.{quantisedOf, assemblerOf, answerOf, Hands, Starts, Gives}
 use Rattle.light.specs.declared.Quantised.{Quantised}
 use Rattle.light.specs.declared.Quantised.the-variants.{Level, NotFinite}

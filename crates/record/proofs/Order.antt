@@ -10,7 +10,7 @@ use lib.ListN.{length}
 use Rattle.rules.specs.Refusals.{Refusal, Answer, refused, done, answer, left, refuse, isWrongSize}
 use Rattle.rules.specs.Orders.{foldedOrder}
 use Rattle.rules.specs.Record.{Fields, numberAt, recordBytes, fieldsOf, notZero, readAnswer}
-use Rattle.laws.specs.Records.{read-parts}
+use Rattle.laws.specs.answers.Records.{read-parts}
 use Rattle.record.specs.Reading.{noFields, zerosAt}
 
 -- what the tests are of

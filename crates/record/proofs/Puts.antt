@@ -6,8 +6,8 @@ use native.Mathlib.Omega.{arith}
 use lib.ListN.{length, set, length-append}
 use lib.Seq.{length-sets}
 use Rattle.rules.specs.Text.{space, decimal}
-use Rattle.laws.specs.Digits.{decimal-length}
-use Rattle.laws.specs.Stores.{sets-append}
+use Rattle.laws.specs.numbers.Digits.{decimal-length}
+use Rattle.laws.specs.numbers.Stores.{sets-append}
 use Rattle.record.specs.Lines.{Put, Within}
 
 pub put-none : (out : List ℕ) (at : ℕ) → Put out at [] at out

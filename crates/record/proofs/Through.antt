@@ -9,7 +9,7 @@ use lib.ListN.{length, take, drop, length-drop, drop-of-length-le}
 use lib.Seq.{sets, drop-drop, take-all}
 use Rattle.rules.specs.Record.{recordBytes, recordAnswer}
 use Rattle.rules.specs.Text.{line, mostRecords, textFrom}
-use Rattle.laws.specs.Texts.{text-none, text-step, text-stops}
+use Rattle.laws.specs.answers.Texts.{text-none, text-step, text-stops}
 use Rattle.record.specs.Lines.{Put, Within, longest}
 use Rattle.record.specs.Pieces.{roomFor, Piece}
 use Rattle.record.specs.declared.piece.Written.the-variants.{Lines}

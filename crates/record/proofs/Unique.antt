@@ -1,7 +1,7 @@
 -- No second answer: of each public function, two results that meet its contract are equal.
 -- The contracts are those of src/ themselves, as the check reads them: a weaker one has no such theorem.
 use denote.Ref.{now}
-use Rattle.laws.specs.Answers.{OneResult, OneOutcome, one-answer}
+use Rattle.laws.specs.answers.OneAnswer.{OneResult, OneOutcome, one-answer}
 use Rattle.record.specs.Unique.{answer-injective}
 use Rattle.record.specs.Pieces.{one-piece}
 use Rattle.record.proofs.read.read.Reads as read

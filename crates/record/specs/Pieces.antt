@@ -8,7 +8,7 @@ use lib.ListN.{length}
 use lib.Seq.{sets}
 use Rattle.rules.specs.Record.{recordBytes}
 use Rattle.rules.specs.Text.{textFrom}
-use Rattle.laws.specs.Answers.{one-answer}
+use Rattle.laws.specs.answers.OneAnswer.{one-answer}
 use Rattle.record.specs.Lines.{longest}
 use Rattle.record.specs.declared.piece.Written.{Written}
 use Rattle.record.specs.declared.piece.Written.the-variants.{Lines, NoRoom}

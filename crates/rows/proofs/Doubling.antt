@@ -10,7 +10,7 @@ use lib.Dec.{ltb}
 use lib.ListN.{length, getD, drop, length-map}
 use lib.Seq.{getD-drop, drop-drop}
 use borrow.Author.Tests.{ltb-true, ltb-false}
-use Rattle.laws.specs.SortedRows.{merge, merge-front-first, merge-front-second, doubled}
+use Rattle.laws.specs.rows.SortedRows.{merge, merge-front-first, merge-front-second, doubled}
 
 -- each entry with x added
 abbrev plus : ℕ → List ℕ → List ℕ

@@ -8,7 +8,7 @@ use native.Mathlib.Decide.{ℕ-discrete, decLt}
 use native.Mathlib.Omega.{arith}
 use lib.ListN.{getD}
 use lib.Pow.{pow-mono, pow-pos}
-use Rattle.laws.specs.SortedRows.{rowOf, row-length}
+use Rattle.laws.specs.rows.SortedRows.{rowOf, row-length}
 use Rattle.rows.specs.Adding.{Sized, adds, RowsRight}
 use Rattle.rows.specs.Cells.{cell, Shaped, Room, Placed, Kept, Built, Filled}
 use Rattle.rows.proofs.Cells.{cell-at}

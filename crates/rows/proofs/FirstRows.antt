@@ -5,7 +5,7 @@ use mathlib.Core.List.{[], _∷_}
 use native.Mathlib.Decide.{decLt}
 use native.Mathlib.Omega.{arith}
 use borrow.Author.Tests.{lt-ltb, le-ltb}
-use Rattle.laws.specs.SortedRows.{merge, doubled, rowOf}
+use Rattle.laws.specs.rows.SortedRows.{merge, doubled, rowOf}
 use Rattle.rows.specs.Cells.{InOrder}
 
 -- two single entries

@@ -8,10 +8,10 @@ use lib.ListN.{length, getD, set}
 use lib.Pow.{pow-pos, pow-mono}
 use lib.Seq.{getD-set-same, getD-set-other}
 use borrow.Author.Count.{below-more}
-use Rattle.laws.specs.Each.{each-all}
-use Rattle.laws.specs.SortedLists.{mem-getD}
-use Rattle.laws.specs.SortedRows.{rowOf, row-length, row-bound}
-use Rattle.laws.specs.MirroredRows.{bothOf, row-mirrored}
+use Rattle.laws.specs.numbers.Each.{each-all}
+use Rattle.laws.specs.numbers.SortedLists.{mem-getD}
+use Rattle.laws.specs.rows.SortedRows.{rowOf, row-length, row-bound}
+use Rattle.laws.specs.rows.MirroredRows.{bothOf, row-mirrored}
 use Rattle.rows.specs.Adding.{Sized, Small, adds}
 use Rattle.rows.specs.Cells.{cell, Built, Filled}
 use Rattle.rows.specs.Lanes.{lane, Lanes, laneDoubled, laneSum, Merged, FourAdd}

@@ -8,8 +8,8 @@ use native.Mathlib.Decide.{ℕ-discrete}
 use native.Mathlib.Omega.{arith}
 use lib.Dec.{ltb}
 use lib.ListN.{getD}
-use Rattle.laws.specs.Each.{each-length, each-at}
-use Rattle.laws.specs.SortedRows.{doubled}
+use Rattle.laws.specs.numbers.Each.{each-length, each-at}
+use Rattle.laws.specs.rows.SortedRows.{doubled}
 use Rattle.rows.specs.Cells.{cell, put, Shaped, Room, Kept}
 use Rattle.rows.specs.Lanes.{lane, Turned, Lanes, laneDoubled, Merged}
 use Rattle.rows.proofs.Cells.{put-same, put-other, put-shaped, kept-more}

@@ -2,7 +2,7 @@
 use Prim.Native.Nat.{ℕ, zero, suc, _+_, _*_, _%_, _^_, _≤_, _<_}
 use mathlib.Core.Path.{_≡_, refl}
 use native.Mathlib.Omega.{arith}
-use Rattle.laws.specs.Bits.{power-shifted}
+use Rattle.laws.specs.numbers.Bits.{power-shifted}
 use Rattle.rows.specs.Adding.{Sized}
 
 -- what holds at 1, 2, 4 and 8 holds at every group size

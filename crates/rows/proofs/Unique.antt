@@ -4,7 +4,7 @@
 use Prim.Native.Nat.{ℕ, _^_, _<_}
 use mathlib.Core.Path.{_≡_}
 use mathlib.Core.List.{List}
-use Rattle.laws.specs.Answers.{one-answer}
+use Rattle.laws.specs.answers.OneAnswer.{one-answer}
 use Rattle.rows.specs.Table.{entryAt}
 use Rattle.rows.specs.Adding.{RowsRight}
 use Rattle.rows.proofs.rows.Reads as rows

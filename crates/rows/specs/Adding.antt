@@ -3,7 +3,7 @@ use Prim.Native.Nat.{ℕ, zero, suc, _+_, _*_, _^_, _≤_, _<_}
 use mathlib.Core.Path.{_≡_}
 use mathlib.Core.List.{List}
 use lib.ListN.{getD}
-use Rattle.laws.specs.SortedRows.{rowOf}
+use Rattle.laws.specs.rows.SortedRows.{rowOf}
 use Rattle.rows.specs.Table.{entryAt}
 
 -- groups of 1, 2, 4 or 8 slots, with 64 seats at most

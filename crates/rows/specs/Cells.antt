@@ -4,7 +4,7 @@ use mathlib.Core.Path.{_≡_}
 use mathlib.Core.Logic.{_⊎_}
 use mathlib.Core.List.{List, []}
 use lib.ListN.{length, getD, set}
-use Rattle.laws.specs.SortedRows.{rowOf}
+use Rattle.laws.specs.rows.SortedRows.{rowOf}
 use Rattle.rows.specs.Adding.{adds}
 
 -- what stands at place p

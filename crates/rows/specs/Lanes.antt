@@ -7,7 +7,7 @@ use mathlib.Core.List.{List, map}
 use lib.Dec.{ltb}
 use lib.ListN.{getD}
 use Rattle.rules.specs.Below.{listBelow}
-use Rattle.laws.specs.SortedRows.{doubled}
+use Rattle.laws.specs.rows.SortedRows.{doubled}
 use Rattle.rows.specs.Cells.{cell, put, Shaped, Room, Kept}
 
 -- the m entries from `start` on

@@ -1,7 +1,7 @@
 // The rows of the first slot, or of the first two: their entries in order, with no loop.
 ghost use mathlib.Core.Path.{_≡_};
 ghost use Prim.Native.Nat.{_+_, _^_, _<_, _≤_, min, max};
-ghost use Rattle.laws.specs.SortedRows.{rowOf};
+ghost use Rattle.laws.specs.rows.SortedRows.{rowOf};
 ghost use Rattle.rows.specs.Adding.{Sized, Small, adds};
 ghost use Rattle.rows.specs.Cells.{Shaped, Room, InOrder, Placed, Filled};
 use crate::table::store;

@@ -13,7 +13,7 @@ use lib.ListN.{length, take, drop, length-drop}
 use lib.Seq.{length-take-le, take-all, take-take, take-add}
 use Rattle.rules.specs.Record.{recordBytes}
 use Rattle.rules.specs.Text.{mostRecords, textFrom}
-use Rattle.laws.specs.Texts.{text-stops, text-append}
+use Rattle.laws.specs.answers.Texts.{text-stops, text-append}
 use Rattle.stream.specs.Pieces.{pieceRecords, mostBytes, pieceBytes, takenOf, nextPiece, goOn, piecesText}
 use Rattle.stream.specs.declared.piece.Next.the-variants.{Piece, End}
 

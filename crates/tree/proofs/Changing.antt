@@ -10,12 +10,12 @@ use lib.Count.{ones}
 use lib.ListN.{length, getD}
 use lib.Pow.{pow-lt, pow-mono}
 use Rattle.rules.specs.Word.{codeword}
-use Rattle.laws.specs.Bits.{power-shifted}
-use Rattle.laws.specs.Matrix.{codeword-zero, codeword-longer}
-use Rattle.laws.specs.Seats.{seatIndex, seat-below}
-use Rattle.laws.specs.SeatWords.{unseat-zero}
-use Rattle.laws.specs.Decided.{changeOf}
-use Rattle.laws.specs.Copied.{change-more}
+use Rattle.laws.specs.numbers.Bits.{power-shifted}
+use Rattle.laws.specs.code.Matrix.{codeword-zero, codeword-longer}
+use Rattle.laws.specs.seats.Seats.{seatIndex, seat-below}
+use Rattle.laws.specs.seats.SeatWords.{unseat-zero}
+use Rattle.laws.specs.seats.Decided.{changeOf}
+use Rattle.laws.specs.seats.Copied.{change-more}
 use Rattle.tree.specs.declared.group.Tree.{Tree}
 use Rattle.tree.specs.Grouping.{Grouped, Doubled}
 use Rattle.tree.specs.Seating.{Seated}

@@ -9,7 +9,7 @@ use lib.ListN.{length}
 use borrow.Author.Tests.{lt-ltb, le-ltb, not-false}
 use Rattle.rules.specs.Below.{firstBelow}
 use Rattle.rules.specs.Level.{inRange, levelAt}
-use Rattle.laws.specs.Sums.{none-at}
+use Rattle.laws.specs.numbers.Sums.{none-at}
 use Rattle.level.specs.Range.{firstOut, slotFound}
 
 module _ (levels : List ℤ) (slots first : ℕ) (long : length levels ≡ slots) (found : firstOut levels ≡ slotFound (length levels) first) where

@@ -9,10 +9,10 @@ use lib.Bits.{bitXor, xor-comm, xor-shifted}
 use lib.Count.{ones}
 use lib.ListN.{length, getD}
 use lib.Pow.{pow-mono, pow-pos}
-use Rattle.laws.specs.Matrix.{codeword-lt}
-use Rattle.laws.specs.Copied.{coveredOf, covered-first, covered-more}
-use Rattle.laws.specs.Seats.{seatIndex}
-use Rattle.laws.specs.SeatedDown.{groups-blocks}
+use Rattle.laws.specs.code.Matrix.{codeword-lt}
+use Rattle.laws.specs.seats.Copied.{coveredOf, covered-first, covered-more}
+use Rattle.laws.specs.seats.Seats.{seatIndex}
+use Rattle.laws.specs.seats.SeatedDown.{groups-blocks}
 use Rattle.tree.specs.declared.group.Tree.{Tree}
 use Rattle.tree.specs.Grouping.{Grouped, Doubled}
 use Rattle.tree.specs.Seating.{Seated}

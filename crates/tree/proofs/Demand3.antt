@@ -12,10 +12,10 @@ use Rattle.rules.specs.Level.{levelCost}
 use Rattle.rules.specs.Guard.{guardOf}
 use Rattle.rules.specs.Walk.{walkVisits}
 use Rattle.rules.specs.Answers as rules
-use Rattle.laws.specs.Answers.{Shown}
+use Rattle.laws.specs.answers.OneAnswer.{Shown}
 use Rattle.word.specs.Words.{wordOf}
 use Rattle.tree.specs.Reading.{decodedOf, answerOf}
-use Rattle.tree.specs.Demand3.{sentLevels, movedInAll, below-guard, LostAtGuard}
+use Rattle.laws.specs.answers.GuardAnswer.{sentLevels, movedInAll, below-guard, LostAtGuard}
 use Rattle.tree.specs.Unique.{is-found}
 use Rattle.tree.specs.declared.Answer as answer
 use Rattle.tree.specs.declared.Decoded as decoded

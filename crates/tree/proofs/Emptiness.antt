@@ -14,11 +14,11 @@ use borrow.Author.Tests.{eq-eqb, ne-eqb}
 use Rattle.rules.specs.Folding as rules
 use Rattle.rules.specs.Walk.{fillings}
 use Rattle.rules.specs.Refusals.{isEmpty}
-use Rattle.laws.specs.Sums.{none-of, some-of}
-use Rattle.laws.specs.FillingNumber.{group-fillings}
-use Rattle.laws.specs.SeatedRow.{blockOf}
-use Rattle.laws.specs.SeatWords.{seat}
-use Rattle.laws.specs.Copied.{shut-ones}
+use Rattle.laws.specs.numbers.Sums.{none-of, some-of}
+use Rattle.laws.specs.seats.FillingNumber.{group-fillings}
+use Rattle.laws.specs.seats.SeatedRow.{blockOf}
+use Rattle.laws.specs.seats.SeatWords.{seat}
+use Rattle.laws.specs.seats.Copied.{shut-ones}
 use Rattle.tree.specs.declared.group.Tree.{Tree}
 use Rattle.tree.specs.Grouping.{Grouped, Shut}
 use Rattle.tree.specs.Empty.{FewShut, FirstEmpty, isEmptyLevel}

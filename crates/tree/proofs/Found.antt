@@ -14,9 +14,9 @@ use Rattle.rules.specs.Level.{nothing, best, levelCost, wordDistance, leastWord
 use Rattle.rules.specs.Walk.{State, keepBest, walkVisits}
 use Rattle.rules.specs.Refusals.{refused, done, refuseAt}
 use Rattle.rules.specs.Answers as rules
-use Rattle.laws.specs.Least.{leastWord-least}
-use Rattle.laws.specs.Matrix.{codeword-longer}
-use Rattle.laws.specs.Permitted.{permitted-lt}
+use Rattle.laws.specs.distance.Least.{leastWord-least}
+use Rattle.laws.specs.code.Matrix.{codeword-longer}
+use Rattle.laws.specs.code.Permitted.{permitted-lt}
 use Rattle.word.specs.Words.{sizeOf}
 use Rattle.tree.specs.States.{keptOf, runningOf, stateOf}
 use Rattle.tree.specs.Empty.{firstEmpty}

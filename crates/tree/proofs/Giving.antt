@@ -13,9 +13,9 @@ use lib.Pow.{pow-pos}
 use lib.Seq.{getD-set-same, getD-set-other}
 use Rattle.rules.specs.Below.{sumBelow}
 use Rattle.rules.specs.Level.{limit, inRange}
-use Rattle.laws.specs.Sums.{sum-le, sum-const}
-use Rattle.laws.specs.SortedRows.{row-cong}
-use Rattle.laws.specs.Excess.{excess, nearest, excess-greatest, nearest-greatest, excess-one-bit}
+use Rattle.laws.specs.numbers.Sums.{sum-le, sum-const}
+use Rattle.laws.specs.rows.SortedRows.{row-cong}
+use Rattle.laws.specs.distance.Excess.{excess, nearest, excess-greatest, nearest-greatest, excess-one-bit}
 use Rattle.rows.specs.Adding.{adds, RowsRight}
 use Rattle.tree.specs.Nodes.{most}
 use Rattle.tree.specs.Slots.{SmallSeats, Levelled, SeatGives, GroupGives, Gives, Ranked, seatLevel, nearSum}

@@ -8,10 +8,10 @@ use denote.Ref.{now}
 use Rattle.rules.specs.Level.{levelCost}
 use Rattle.rules.specs.Walk.{walkVisits}
 use Rattle.rules.specs.Refusals.{refused}
-use Rattle.laws.specs.Answers.{Shown}
+use Rattle.laws.specs.answers.OneAnswer.{Shown}
 use Rattle.word.specs.Words.{wordOf}
 use Rattle.tree.specs.Reading.{decodedOf, answerOf}
-use Rattle.tree.specs.LeastAnswer.{Accepted, HoldsLeast, done-least, accepted-done, accepted-gives-up}
+use Rattle.laws.specs.answers.LeastAnswer.{Accepted, HoldsLeast, done-least, accepted-done, accepted-gives-up}
 use Rattle.tree.specs.Unique.{is-found}
 use Rattle.tree.specs.declared.Answer as answer
 use Rattle.tree.specs.declared.Decoded as decoded

@@ -5,7 +5,7 @@ use native.Mathlib.Nat.{mul-div-cancel, mul-mod-left, mod-lt, add-zero}
 use native.Mathlib.Omega.{arith}
 use lib.Arith.{digits-lt, mod-mul}
 use lib.Pow.{pow-pos, pow-add}
-use Rattle.laws.specs.Bits.{power-shifted}
+use Rattle.laws.specs.numbers.Bits.{power-shifted}
 use Rattle.tree.specs.Nodes.{Inside}
 
 module _ {size k j : ℕ} (inside : Inside size k j) where

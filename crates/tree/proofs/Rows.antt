@@ -7,8 +7,8 @@ use native.Mathlib.Numerals.{add-one}
 use lib.ListN.{drop, drop-of-length-le}
 use lib.Seq.{drop-cons}
 use Rattle.rules.specs.Walk.{Candidate}
-use Rattle.laws.specs.Each.{each-length, each-at}
-use Rattle.laws.specs.SeatedRow.{isOpen, entryCandidate, entryCandidates}
+use Rattle.laws.specs.numbers.Each.{each-length, each-at}
+use Rattle.laws.specs.seats.SeatedRow.{isOpen, entryCandidate, entryCandidates}
 use Rattle.rows.specs.Table.{entryAt, rowAt}
 
 module _ (table : List (List ℕ)) (n F size k near forced shut : ℕ) where

@@ -17,17 +17,17 @@ use Rattle.rules.specs.Word.{bit, codeword}
 use Rattle.rules.specs.Level.{levelAt, levelCost, best, wordDistance, leastWord}
 use Rattle.rules.specs.Folding.{groups}
 use Rattle.rules.specs.Walk.{Candidate, keepBest, walkVisits}
-use Rattle.laws.specs.Each.{each-length, each-at}
-use Rattle.laws.specs.Sums.{sum-cong, sum-add, sum-mul, sum-le, sum-const}
-use Rattle.laws.specs.GreatestDistance.{slot-greatest}
-use Rattle.laws.specs.Excess.{excess, nearest, cost-split}
-use Rattle.laws.specs.Seats.{seatIndex, seat-below}
-use Rattle.laws.specs.SeatWords.{seat}
-use Rattle.laws.specs.SeatedRow.{blockOf, branchOf, entryCandidates}
-use Rattle.laws.specs.SeatedWalk.{seatedCandidates, seated-least-in}
-use Rattle.laws.specs.SortedLists.{mem-getD}
-use Rattle.laws.specs.SortedRows.{rowOf, row-length, row-at, row-cong, entry-parts}
-use Rattle.laws.specs.Allowance.{walkIn, walk-cong}
+use Rattle.laws.specs.numbers.Each.{each-length, each-at}
+use Rattle.laws.specs.numbers.Sums.{sum-cong, sum-add, sum-mul, sum-le, sum-const}
+use Rattle.laws.specs.distance.GreatestDistance.{slot-greatest}
+use Rattle.laws.specs.distance.Excess.{excess, nearest, cost-split}
+use Rattle.laws.specs.seats.Seats.{seatIndex, seat-below}
+use Rattle.laws.specs.seats.SeatWords.{seat}
+use Rattle.laws.specs.seats.SeatedRow.{blockOf, branchOf, entryCandidates}
+use Rattle.laws.specs.seats.SeatedWalk.{seatedCandidates, seated-least-in}
+use Rattle.laws.specs.numbers.SortedLists.{mem-getD}
+use Rattle.laws.specs.rows.SortedRows.{rowOf, row-length, row-at, row-cong, entry-parts}
+use Rattle.laws.specs.walk.Allowance.{walkIn, walk-cong}
 use Rattle.tree.specs.Seating.{Seated}
 use Rattle.tree.specs.Grouping.{Grouped, Covered, Shut, Changes}
 use Rattle.rows.specs.Table.{entryAt, rowAt}

@@ -9,8 +9,8 @@ use lib.ListN.{getD}
 use lib.Pow.{pow-mono}
 use lib.Seq.{getD-take}
 use Rattle.rules.specs.Word.{bit}
-use Rattle.laws.specs.Seats.{seatIndex, seat-below}
-use Rattle.laws.specs.SeatWords.{unseatBelow, unseat-step}
+use Rattle.laws.specs.seats.Seats.{seatIndex, seat-below}
+use Rattle.laws.specs.seats.SeatWords.{unseatBelow, unseat-step}
 use Rattle.tree.specs.Seating.{Seated}
 
 module _ {l : List ℕ} {n folding : ℕ} (given : Seated l n folding) where

@@ -11,11 +11,11 @@ use lib.ListN.{getD}
 use lib.Pow.{pow-pos, pow-mono}
 use Rattle.rules.specs.Word.{codeword}
 use Rattle.rules.specs.Folding as rules
-use Rattle.laws.specs.Matrix.{codeword-lt}
-use Rattle.laws.specs.SeatWords.{seat}
-use Rattle.laws.specs.SeatedRow.{blockOf, fillingOf, isOpen, branchOf, entryCandidate}
-use Rattle.laws.specs.Decided.{decided, changeOf, Filled, filled}
-use Rattle.laws.specs.Copied.{change-copied}
+use Rattle.laws.specs.code.Matrix.{codeword-lt}
+use Rattle.laws.specs.seats.SeatWords.{seat}
+use Rattle.laws.specs.seats.SeatedRow.{blockOf, fillingOf, isOpen, branchOf, entryCandidate}
+use Rattle.laws.specs.seats.Decided.{decided, changeOf, Filled, filled}
+use Rattle.laws.specs.seats.Copied.{change-copied}
 use Rattle.rows.specs.Table.{entryAt}
 use Rattle.tree.specs.Nodes.{Inside}
 use Rattle.tree.specs.Grouping.{GroupSize}

@@ -10,15 +10,15 @@ use lib.ListN.{getD}
 use lib.Pow.{pow-pos, pow-mono, ones-lt, ones-split}
 use Rattle.rules.specs.Below.{sumBelow}
 use Rattle.rules.specs.Word.{bit}
-use Rattle.laws.specs.Sums.{sum-zero, sum-split}
-use Rattle.laws.specs.Bits.{power-shifted, bit-beyond, bit-high}
-use Rattle.laws.specs.GroupSizes.{groups-all}
-use Rattle.laws.specs.Seats.{seatIndex}
-use Rattle.laws.specs.SeatWords.{seat, unseat, unseatBelow, unseat-lt}
-use Rattle.laws.specs.SeatedRow.{blockOf}
-use Rattle.laws.specs.SeatedBlocks.{unseat-block}
-use Rattle.laws.specs.Decided.{shutOf, shut-block}
-use Rattle.laws.specs.Copied.{shut-is}
+use Rattle.laws.specs.numbers.Sums.{sum-zero, sum-split}
+use Rattle.laws.specs.numbers.Bits.{power-shifted, bit-beyond, bit-high}
+use Rattle.laws.specs.walk.GroupSizes.{groups-all}
+use Rattle.laws.specs.seats.Seats.{seatIndex}
+use Rattle.laws.specs.seats.SeatWords.{seat, unseat, unseatBelow, unseat-lt}
+use Rattle.laws.specs.seats.SeatedRow.{blockOf}
+use Rattle.laws.specs.seats.SeatedBlocks.{unseat-block}
+use Rattle.laws.specs.seats.Decided.{shutOf, shut-block}
+use Rattle.laws.specs.seats.Copied.{shut-is}
 use Rattle.tree.specs.declared.group.Tree.{Tree}
 use Rattle.tree.specs.Grouping.{GroupSize}
 use Rattle.tree.specs.Grouping.{Grouped, Shut}

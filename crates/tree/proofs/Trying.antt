@@ -12,10 +12,10 @@ use lib.ListN.{getD}
 use borrow.Author.Tests.{lt-ltb, le-ltb}
 use Rattle.rules.specs.Level.{keep}
 use Rattle.rules.specs.Walk.{Candidate, State, keepBest, count, isFarther}
-use Rattle.laws.specs.Allowance.{visitIn, walkIn, visit-end, visit-stopped, visit-out, visit-cut, visit-down, walk-last, walk-node}
-use Rattle.laws.specs.SeatedRow.{isOpen, entryCandidate}
-use Rattle.laws.specs.Decided.{decided, decided-all}
-use Rattle.laws.specs.Bits.{power-shifted}
+use Rattle.laws.specs.walk.Allowance.{visitIn, walkIn, visit-end, visit-stopped, visit-out, visit-cut, visit-down, walk-last, walk-node}
+use Rattle.laws.specs.seats.SeatedRow.{isOpen, entryCandidate}
+use Rattle.laws.specs.seats.Decided.{decided, decided-all}
+use Rattle.laws.specs.numbers.Bits.{power-shifted}
 use Rattle.rows.specs.Table.{entryAt}
 use Rattle.tree.specs.States.{keptOf, runningOf, stateOf}
 use Rattle.tree.specs.Nodes.{Given, rowCandidates, coveredIn, shutIn}

@@ -7,7 +7,7 @@ use native.Mathlib.Numerals.{add-one}
 use native.Mathlib.Omega.{arith}
 use lib.ListN.{length, take, getD, set, length-map, List·getD-map, List·getD-append}
 use lib.Seq.{take-suc, take-suc-set, take-all, getD-take, length-take-le}
-use Rattle.laws.specs.Seats.{widened}
+use Rattle.laws.specs.seats.Seats.{widened}
 
 module _ (l : List ℕ) (m step : ℕ) where
   -- the indices with the step added

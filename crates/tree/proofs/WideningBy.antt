@@ -11,8 +11,8 @@ use lib.ListN.{length, take, getD, length-map, List·getD-map, List·getD-append
 use lib.Pow.{pow-mono}
 use lib.Seq.{getD-take, getD-append-add, length-take-le}
 use Rattle.rules.specs.Below.{countBelow, sumBelow}
-use Rattle.laws.specs.Places.{count-passing, count-failing, count-mono}
-use Rattle.laws.specs.Seats.{widened, widenedBy}
+use Rattle.laws.specs.numbers.CountBelow.{count-passing, count-failing, count-mono}
+use Rattle.laws.specs.seats.Seats.{widened, widenedBy}
 use Rattle.tree.specs.Seating.{AtMost}
 
 -- what stands in a list does not depend on what is read past its end

@@ -5,8 +5,8 @@ use mathlib.Core.List.{List}
 use lib.Count.{ones}
 use lib.ListN.{getD}
 use Rattle.rules.specs.Folding as rules
-use Rattle.laws.specs.Decided.{changeOf, shutOf}
-use Rattle.laws.specs.Copied.{coveredOf}
+use Rattle.laws.specs.seats.Decided.{changeOf, shutOf}
+use Rattle.laws.specs.seats.Copied.{coveredOf}
 use Rattle.tree.specs.declared.group.Tree.{Tree}
 
 -- n up to 6, a folding of at most three ones, the size of its groups and their number, and an allowance of 32 bits

@@ -6,6 +6,4 @@ pub mod States
 pub mod Nodes
 pub mod Reading
 pub mod Search
-pub mod LeastAnswer
-pub mod Demand3
 pub mod Unique

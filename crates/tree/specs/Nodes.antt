@@ -5,9 +5,9 @@ use lib.ListN.{getD}
 use Rattle.rules.specs.Word.{codeword}
 use Rattle.rules.specs.Level.{limit}
 use Rattle.rules.specs.Walk.{Candidate}
-use Rattle.laws.specs.Decided.{Blank}
-use Rattle.laws.specs.SeatWords.{seat}
-use Rattle.laws.specs.SeatedRow.{blockOf, branchOf, entryCandidates}
+use Rattle.laws.specs.seats.Decided.{Blank}
+use Rattle.laws.specs.seats.SeatWords.{seat}
+use Rattle.laws.specs.seats.SeatedRow.{blockOf, branchOf, entryCandidates}
 use Rattle.tree.specs.Grouping.{Grouped, Covered, Shut, Changes}
 use Rattle.rows.specs.Table.{entryAt, rowAt}
 use Rattle.tree.specs.declared.group.Tree.{Tree}

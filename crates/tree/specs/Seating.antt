@@ -4,7 +4,7 @@ use mathlib.Core.List.{List}
 use mathlib.Core.Path.{_≡_}
 use lib.ListN.{length, getD, take}
 use Rattle.rules.specs.Below.{countBelow}
-use Rattle.laws.specs.Seats.{hasBit, seats}
+use Rattle.laws.specs.seats.Seats.{hasBit, seats}
 
 -- the first m of a list are at most c
 abbrev pub AtMost : List ℕ → ℕ → ℕ → Type 0

@@ -9,8 +9,8 @@ use lib.IntN.{ℤ}
 use lib.ListN.{length, getD}
 use Rattle.rules.specs.Below.{sumBelow}
 use Rattle.rules.specs.Level.{inRange, levelAt}
-use Rattle.laws.specs.Excess.{excess, nearest}
-use Rattle.laws.specs.SortedRows.{rowOf}
+use Rattle.laws.specs.distance.Excess.{excess, nearest}
+use Rattle.laws.specs.rows.SortedRows.{rowOf}
 use Rattle.rows.specs.Table.{entryAt}
 use Rattle.rows.specs.Adding.{Small}
 

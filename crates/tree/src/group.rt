@@ -5,7 +5,7 @@ ghost use Prim.Native.Nat.{_+_, _-_, _*_, _%_, _^_, _≤_, _<_};
 ghost use lib.Bits.{bitXor};
 ghost use lib.Count.{ones};
 ghost use lib.ListN.{length};
-ghost use Rattle.laws.specs.SeatWords.{unseat};
+ghost use Rattle.laws.specs.seats.SeatWords.{unseat};
 ghost use Rattle.word.specs.Words.{wordOf};
 ghost use Rattle.tree.specs.Seating.{Seated};
 ghost use Rattle.tree.specs.Grouping.{Grouped, Covered, Shut, Doubled, Changes};

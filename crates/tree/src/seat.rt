@@ -3,7 +3,7 @@ ghost use mathlib.Core.Path.{_≡_};
 ghost use Prim.Native.Nat.{ℕ, _+_, _*_, _^_, _≤_, _<_};
 ghost use lib.ListN.{take};
 ghost use Rattle.rules.specs.Below.{countBelow};
-ghost use Rattle.laws.specs.Seats as laws;
+ghost use Rattle.laws.specs.seats.Seats as laws;
 ghost use Rattle.tree.specs.Seating.{AtMost, Widens, WidensBy, Seated};
 
 // The first m indices once more behind them, each with a step added.

@@ -4,7 +4,7 @@ use mathlib.Core.Path.{_≡_}
 use native.Mathlib.Nat.{one-mul, mul-le-mul-right, min-le-right, pow-suc}
 use native.Mathlib.Omega.{arith}
 use lib.Pow.{shl-exact, pow-mono}
-use Rattle.laws.specs.Bits.{power-shifted}
+use Rattle.laws.specs.numbers.Bits.{power-shifted}
 
 -- a bit within the word
 pub bit-shifted : (b i : ℕ) → b < 2 → i < 64 → b * 2 ^ i % 2 ^ 64 ≡ b * 2 ^ i

@@ -5,7 +5,7 @@ use mathlib.Core.Bool.{Bool, false}
 use native.Mathlib.Omega.{arith}
 use lib.Dec.{leb}
 use Rattle.rules.specs.Refusals.{isWrongSize, largest}
-use Rattle.laws.specs.Sizes.{size-le}
+use Rattle.laws.specs.answers.Sizes.{size-le}
 use Rattle.word.specs.Words.{sizeOf}
 
 -- the slots counted at the size of an n in range are N

@@ -6,8 +6,8 @@ use borrow.Author.Needs.{needs}
 use borrow.Author.Tests.{lt-ltb, le-ltb, le-leb, lt-leb}
 use Rattle.rules.specs.Refusals.{answer}
 use Rattle.rules.specs.Orders.{codeOrder, foldingOrder, foldedOrder}
-use Rattle.laws.specs.Bits.{power-shifted}
-use Rattle.laws.specs.Orders.{Passed, answer-after, code-right}
+use Rattle.laws.specs.numbers.Bits.{power-shifted}
+use Rattle.laws.specs.answers.Orders.{Passed, answer-after, code-right}
 use Rattle.word.specs.Words.{wordOf}
 use Rattle.checks.specs.Verdicts.{foldedVerdict}
 use Rattle.checks.specs.Passing.{code-passed, code-refused-first}

@@ -5,7 +5,7 @@ use mathlib.Core.List.{[], _∷_}
 use Rattle.rules.specs.Refusals.{done, answer, wrongMessage}
 use Rattle.rules.specs.Orders.{codeOrder, encodeOrder}
 use Rattle.rules.specs.Answers.{encoded, encodeAnswer}
-use Rattle.laws.specs.Orders.{CodeRight, code-right, answer-after}
+use Rattle.laws.specs.answers.Orders.{CodeRight, code-right, answer-after}
 use Rattle.word.specs.Words.{wordOf}
 use Rattle.checks.specs.Passing.{code-passed, code-refused-first}
 use Rattle.code.proofs.Tests.{message-test, words-right}

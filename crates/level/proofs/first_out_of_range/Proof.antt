@@ -9,7 +9,7 @@ use borrow.Author.Count.{below-more}
 use borrow.Author.Needs.{needs}
 use borrow.Author.Tests.{lt-ltb, le-ltb}
 use Rattle.rules.specs.Level.{inRange, levelAt}
-use Rattle.laws.specs.Sums.{some-of, none-of}
+use Rattle.laws.specs.numbers.Sums.{some-of, none-of}
 use Rattle.level.proofs.Tests.{tested}
 use Rattle.level.proofs.first_out_of_range.Statement.{statement}
 use Rattle.level.proofs.first_out_of_range.Tie as tie

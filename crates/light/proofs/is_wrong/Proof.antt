@@ -5,7 +5,7 @@ use mathlib.Core.Bool.{Bool, _||_}
 use native.Mathlib.Omega.{arith}
 use borrow.Author.Needs.{needs}
 use lib.Dec.{ltb}
-use Rattle.laws.specs.Sizes.{size-le}
+use Rattle.laws.specs.answers.Sizes.{size-le}
 use Rattle.light.proofs.Sizes.{shifted}
 use Rattle.light.proofs.is_wrong.Statement.{statement}
 use Rattle.light.proofs.is_wrong.Tie as tie

@@ -5,7 +5,7 @@ use native.Mathlib.Omega.{arith}
 use lib.ListN.{length, length-set}
 use lib.Pow.{pow-mono}
 use borrow.Author.Needs.{needs}
-use Rattle.laws.specs.Bits.{power-shifted}
+use Rattle.laws.specs.numbers.Bits.{power-shifted}
 use Rattle.rows.specs.Lanes.{FourAdd}
 use Rattle.rows.proofs.LaneRows.{four-none, four-more, lanes-ready, rows-more}
 use Rattle.rows.proofs.Places.{place, seat-inside, groups-few, size-small, entries-shifted}

@@ -10,8 +10,8 @@ use borrow.Author.Tests.{ne-eqb}
 use Rattle.rules.specs.Refusals.{Answer, answer, refuseAt, isWrongSize}
 use Rattle.rules.specs.Orders.{foldedOrder, walkOrder}
 use Rattle.rules.specs.Answers.{Decoded, decoded, decodeAnswer}
-use Rattle.laws.specs.Orders.{FoldedRight, folded-right, LentRight}
-use Rattle.laws.specs.DecodeOrder.{decode-parts, after-lent, after-folded}
+use Rattle.laws.specs.answers.Orders.{FoldedRight, folded-right, LentRight}
+use Rattle.laws.specs.answers.DecodeOrder.{decode-parts, after-lent, after-folded}
 use Rattle.word.specs.Words.{wordOf}
 use Rattle.word.specs.Sizes.{slots-right}
 use Rattle.checks.specs.Passing.{folded-passed, folded-refused-first}

@@ -2,7 +2,7 @@
 use mathlib.Core.Path.{sym}
 use native.Mathlib.Omega.{arith}
 use borrow.Author.Needs.{needs}
-use Rattle.laws.specs.Bits.{bit-beyond}
+use Rattle.laws.specs.numbers.Bits.{bit-beyond}
 use Rattle.word.proofs.bit.Statement.{statement}
 use Rattle.word.proofs.bit.Tie as tie
 

@@ -6,7 +6,7 @@ use Rattle.rules.specs.Guard.{guardOf, guardFor}
 use Rattle.rules.specs.Refusals.{done}
 use Rattle.rules.specs.Orders.{codeOrder}
 use Rattle.rules.specs.Answers.{guardAnswer}
-use Rattle.laws.specs.Orders.{CodeRight, code-right, passed-done}
+use Rattle.laws.specs.answers.Orders.{CodeRight, code-right, passed-done}
 use Rattle.word.specs.Words.{wordOf, fewestOf}
 use Rattle.checks.specs.Passing.{code-passed, code-refused}
 use Rattle.code.proofs.Tests.{own-size, fewest-small, guard-fits}

@@ -1,7 +1,7 @@
 -- `code::Code::new` meets its contract.
 use mathlib.Core.Path.{sym}
 use Rattle.rules.specs.Orders.{codeOrder}
-use Rattle.laws.specs.Orders.{passed-done}
+use Rattle.laws.specs.answers.Orders.{passed-done}
 use Rattle.word.specs.Words.{wordOf}
 use Rattle.checks.specs.Passing.{code-passed, code-refused}
 use Rattle.code.specs.Made.{madeAnswer}

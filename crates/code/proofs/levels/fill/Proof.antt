@@ -9,7 +9,7 @@ use borrow.Author.Needs.{needs}
 use borrow.Author.Count.{below-none}
 use Rattle.rules.specs.Word.{bit}
 use Rattle.rules.specs.Level as rules
-use Rattle.laws.specs.Each.{each-stored, each-all}
+use Rattle.laws.specs.numbers.Each.{each-stored, each-all}
 use Rattle.code.proofs.levels.fill.Statement.{statement}
 use Rattle.code.proofs.levels.fill.Tie as tie
 

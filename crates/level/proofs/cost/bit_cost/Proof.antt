@@ -11,7 +11,7 @@ use lib.IntN.{ℤ, pos, negsuc, natAbs}
 use mir.Syntax.{w32}
 use mir.Val.{SFits}
 use mir.ValLaws.{toZ-ofZ}
-use Rattle.laws.specs.Excess.{beside, nearest, excess, cost-split}
+use Rattle.laws.specs.distance.Excess.{beside, nearest, excess, cost-split}
 use Rattle.level.proofs.Tests.{magnitude-le}
 use Rattle.level.proofs.cost.bit_cost.Statement.{statement}
 use Rattle.level.proofs.cost.bit_cost.Tie as tie

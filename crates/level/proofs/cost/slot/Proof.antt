@@ -7,7 +7,7 @@ use lib.IntN.{ℤ, pos, natAbs}
 use lib.Signed.{ltZ}
 use mir.Syntax.{w32}
 use mir.ValLaws.{toZ-ofZ}
-use Rattle.laws.specs.Excess.{beside, nearest}
+use Rattle.laws.specs.distance.Excess.{beside, nearest}
 use Rattle.level.proofs.Tests.{picked-zero, picked-one}
 use Rattle.level.proofs.cost.slot.Statement.{statement}
 use Rattle.level.proofs.cost.slot.Tie as tie

@@ -8,7 +8,7 @@ use lib.Dec.{T}
 use lib.Pow.{pow-pos}
 use lib.Ieee.{Float, fin, binary32, fits, isNan}
 use Rattle.rules.specs.Sample.{nearestWhole}
-use Rattle.laws.specs.Bits.{power-shifted}
+use Rattle.laws.specs.numbers.Bits.{power-shifted}
 use Rattle.light.specs.Steps.{within}
 use Rattle.light.proofs.Fields.{exponent, digits, digits-lt, exponent-le, below-half, from-half}
 use Rattle.light.proofs.sample.nearest.Statement.{statement}

@@ -7,7 +7,7 @@ use native.Mathlib.Omega.{arith}
 use borrow.Author.Needs.{needs}
 use lib.Ieee.{nearest}
 use Rattle.rules.specs.Sample.{nearestWhole}
-use Rattle.light.specs.NearestLaw.{Compared, compared}
+use Rattle.laws.specs.light.Nearest.{Compared, compared}
 use Rattle.light.proofs.sample.nearest_whole.Statement.{statement}
 use Rattle.light.proofs.sample.nearest_whole.Tie as tie
 

@@ -8,7 +8,7 @@ use lib.Pow.{pow-mono}
 use lib.Seq.{length-take-le}
 use Rattle.rules.specs.Answers.{decodeAnswer}
 use Rattle.rules.specs.Record.{Fields}
-use Rattle.laws.specs.Records.{Taken, read-refused, read-decoded, read-taken}
+use Rattle.laws.specs.answers.Records.{Taken, read-refused, read-decoded, read-taken}
 use Rattle.word.specs.Words.{sizeOf}
 use Rattle.word.specs.Sizes.{slots-are}
 use Rattle.record.specs.Reading.{fieldsIn, verdictOn}

@@ -5,7 +5,7 @@ use native.Mathlib.Omega.{arith}
 use lib.ListN.{length}
 use borrow.Fn.Kinds.{In}
 use borrow.Fn.PlainCycle.{Measures, is, falls, and}
-use Rattle.laws.specs.Digits.{decimal-one, decimal-more, decimal-more-length}
+use Rattle.laws.specs.numbers.Digits.{decimal-one, decimal-more, decimal-more-length}
 use Rattle.record.proofs.Puts.{put-none, put-length, put-byte}
 use Rattle.record.proofs.put.put_decimal.Reads as put-decimal
 use Rattle.record.proofs.put.put_decimal.Kinds as put-decimal-kinds

@@ -5,7 +5,7 @@ use native.Mathlib.Nat.{add-zero, div-one}
 use native.Mathlib.Numerals.{add-one}
 use native.Mathlib.Omega.{arith}
 use Rattle.rules.specs.Text.{digit, hex}
-use Rattle.laws.specs.Digits.{hex-more, sixteens}
+use Rattle.laws.specs.numbers.Digits.{hex-more, sixteens}
 use Rattle.record.specs.Lines.{Put}
 use Rattle.record.proofs.Puts.{put-none, put-length, put-byte}
 use Rattle.record.proofs.put.put_hex.Statement.{statement}

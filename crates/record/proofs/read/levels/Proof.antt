@@ -9,7 +9,7 @@ use mir.ValLaws.{toZ-ofZ}
 use borrow.Author.Count.{below-none}
 use borrow.Author.Needs.{needs}
 use Rattle.rules.specs.Record.{slotLevel}
-use Rattle.laws.specs.Each.{each-stored, each-all}
+use Rattle.laws.specs.numbers.Each.{each-stored, each-all}
 use Rattle.record.proofs.read.levels.Statement.{statement}
 use Rattle.record.proofs.read.levels.Tie as tie
 

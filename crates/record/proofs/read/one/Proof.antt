@@ -1,6 +1,6 @@
 -- `record::read::one` meets its contract.
 use mathlib.Core.Path.{sym}
-use Rattle.laws.specs.LittleEndian.{number-one}
+use Rattle.laws.specs.numbers.LittleEndian.{number-one}
 use borrow.Author.Needs.{needs}
 use Rattle.record.proofs.read.one.Statement.{statement}
 use Rattle.record.proofs.read.one.Tie as tie

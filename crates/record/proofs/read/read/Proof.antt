@@ -6,7 +6,7 @@ use mathlib.Core.List.{List}
 use borrow.Author.Tests.{lt-ltb, le-ltb}
 use Rattle.rules.specs.Refusals.{answer, isWrongSize}
 use Rattle.rules.specs.Record.{fieldsOf, readAnswer}
-use Rattle.laws.specs.Orders.{passed-done}
+use Rattle.laws.specs.answers.Orders.{passed-done}
 use Rattle.word.specs.Words.{sizeOf}
 use Rattle.word.specs.Sizes.{right-size}
 use Rattle.checks.specs.Verdicts.{verdictOf, foldedVerdict}

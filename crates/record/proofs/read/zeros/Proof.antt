@@ -8,7 +8,7 @@ use lib.Dec.{ltb, eqb}
 use borrow.Author.Count.{below-more}
 use borrow.Author.Tests.{lt-ltb, le-ltb, eq-eqb, ne-eqb}
 use Rattle.rules.specs.Record.{numberAt}
-use Rattle.laws.specs.Sums.{all-of, all-fails}
+use Rattle.laws.specs.numbers.Sums.{all-of, all-fails}
 use Rattle.record.proofs.read.zeros.Statement.{statement}
 use Rattle.record.proofs.read.zeros.Tie as tie
 

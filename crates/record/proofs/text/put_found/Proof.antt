@@ -4,7 +4,7 @@ use mathlib.Core.Path.{_≡_}
 use mathlib.Core.List.{List, _++_, append-assoc}
 use native.Mathlib.Omega.{arith}
 use Rattle.rules.specs.Text.{decimal, hex, space, foundWord, lineEnd, line}
-use Rattle.laws.specs.Digits.{hex-length}
+use Rattle.laws.specs.numbers.Digits.{hex-length}
 use Rattle.record.specs.Lines.{Within, found}
 use Rattle.record.proofs.Puts.{within-then, room-left, ten-digits, spaced-short}
 use borrow.Author.Needs.{needs}

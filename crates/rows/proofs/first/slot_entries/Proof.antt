@@ -2,7 +2,7 @@
 use Prim.Native.Nat.{_+_, _≤_}
 use native.Mathlib.Omega.{arith}
 use lib.Pow.{pow-mono}
-use Rattle.laws.specs.Bits.{power-shifted}
+use Rattle.laws.specs.numbers.Bits.{power-shifted}
 use borrow.Author.Needs.{needs}
 use Rattle.rows.proofs.first.slot_entries.Statement.{statement}
 use Rattle.rows.proofs.first.slot_entries.Tie as tie

@@ -5,7 +5,7 @@ use native.Mathlib.Omega.{arith}
 use lib.Count.{ones}
 use lib.Pow.{pow-pos}
 use borrow.Author.Needs.{needs}
-use Rattle.laws.specs.Bits.{power-shifted}
+use Rattle.laws.specs.numbers.Bits.{power-shifted}
 use Rattle.word.specs.Sizes.{slots-are}
 use Rattle.tree.proofs.group.folded.Statement.{statement}
 use Rattle.tree.proofs.group.folded.Tie as tie

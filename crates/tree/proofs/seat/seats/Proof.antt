@@ -7,7 +7,7 @@ use native.Mathlib.Omega.{arith}
 use lib.Count.{ones, ones-le}
 use lib.ListN.{take, getD, replicate}
 use lib.Pow.{pow-mono}
-use Rattle.laws.specs.Seats.{seats, widenedBy, hasBit, ones-count, high-size}
+use Rattle.laws.specs.seats.Seats.{seats, widenedBy, hasBit, ones-count, high-size}
 use Rattle.rules.specs.Below.{countBelow}
 use borrow.Author.Needs.{needs}
 use Rattle.tree.proofs.seat.seats.Statement.{statement}

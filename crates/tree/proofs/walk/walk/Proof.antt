@@ -6,7 +6,7 @@ use native.Mathlib.Nat.{mul-assoc, mul-le-mul-right, le-refl}
 use native.Mathlib.Omega.{arith}
 use lib.Pow.{pow-pos, pow-mono}
 use Rattle.rules.specs.Walk.{State, keepBest}
-use Rattle.laws.specs.Decided.{decided-none, blank-none}
+use Rattle.laws.specs.seats.Decided.{decided-none, blank-none}
 use Rattle.tree.specs.Grouping.{Grouped}
 use Rattle.tree.specs.Nodes.{Begun, most}
 use Rattle.tree.specs.declared.group.Tree.{Tree}

@@ -3,7 +3,7 @@ use native.Mathlib.Omega.{arith}
 use mathlib.Core.Path.{ap}
 use lib.Count.{ones}
 use Rattle.word.specs.Words.{sizeOf}
-use Rattle.laws.specs.Counts.{bits-and-ones}
+use Rattle.laws.specs.numbers.Counts.{bits-and-ones}
 use borrow.Author.Needs.{needs}
 use Rattle.word.proofs.count.unfrozen.Statement.{statement}
 use Rattle.word.proofs.count.unfrozen.Tie as tie

@@ -1,6 +1,6 @@
 -- `word::matrix::map16` meets its contract, by the law of halves.
 use mathlib.Core.Path.{sym}
-use Rattle.laws.specs.Matrix.{codeword-halves}
+use Rattle.laws.specs.code.Matrix.{codeword-halves}
 use borrow.Author.Needs.{needs}
 use Rattle.word.proofs.matrix.map16.Statement.{statement}
 use Rattle.word.proofs.matrix.map16.Tie as tie

@@ -5,7 +5,7 @@ use mathlib.Core.List.{List}
 use lib.ListN.{getD}
 use borrow.Author.Needs.{needs}
 use Rattle.rules.specs.Word.{codeword}
-use Rattle.laws.specs.Each.{each-at}
+use Rattle.laws.specs.numbers.Each.{each-at}
 use Rattle.word.proofs.matrix.mapped.Statement.{statement}
 use Rattle.word.proofs.matrix.mapped.Tie as tie
 

@@ -8,8 +8,8 @@ use borrow.Author.Needs.{needs}
 use borrow.Author.Tests.{eq-eqb, ne-eqb}
 use Rattle.rules.specs.Word.{bit, unfrozen, place, gather}
 use Rattle.word.specs.Words.{sizeOf}
-use Rattle.laws.specs.Bits.{bit-lt-two}
-use Rattle.laws.specs.Places.{count-passing, count-failing}
+use Rattle.laws.specs.numbers.Bits.{bit-lt-two}
+use Rattle.laws.specs.numbers.CountBelow.{count-passing, count-failing}
 use Rattle.word.proofs.Shifts.{slots-le}
 use Rattle.word.proofs.Moves.{Moved, movedBelow, moved-none, moved-unfrozen, moved-frozen, moved-fits}
 use Rattle.word.proofs.message.gather.Statement.{statement}
