@@ -115,8 +115,7 @@ module _ (n : ℕ) (levels : List ℤ) (mask folding allowance : ℕ) where
         let whole = passed (lentOrder n levels ++ (foldedOrder n mask folding ++ walkOrder n levels mask folding allowance)) (tt {0}) (tt {0}) e .0 in
         let lent = parts (lentOrder n levels) (foldedOrder n mask folding ++ walkOrder n levels mask folding allowance) .0 whole in
         let folded = parts (foldedOrder n mask folding) (walkOrder n levels mask folding allowance) .0 (lent .1) in
-        let walked = walk-right .0 (folded .1) in
-        (
+        let walked = walk-right .0 (folded .1) in (
           record { lent = lent-right n levels .0 (lent .0); folded = folded-right n mask folding .0 (folded .0); ranged = walked .0 },
           walked .1,
         ),
@@ -138,8 +137,7 @@ module _ (n : ℕ) (levels : List ℤ) (mask folding allowance : ℕ) where
         refused-after (foldedOrder n mask folding) (1 ∷ 3 ∷ 4 ∷ 5 ∷ []) (folded-numbers n mask folding) (walkOrder n levels mask folding allowance) a
         eight refl (lent .1)
         in
-        let walked = walk-gives-up a .0 (folded .1) in
-        (
+        let walked = walk-gives-up a .0 (folded .1) in (
           record { lent = lent-right n levels .0 (lent .0); folded = folded-right n mask folding .0 (folded .0); ranged = walked .0 },
           walked .1,
         ),
