@@ -6,8 +6,8 @@ use native.Mathlib.Omega.{arith}
 use lib.Pow.{pow-mono}
 use borrow.Author.Needs.{needs}
 use Rattle.rules.specs.Word.{codeword}
-use Rattle.tree.proofs.Tabling.{size-small}
-use Rattle.tree.proofs.Changing.{Changed, changed-first, room-for-more, changed-next, column-is}
+use Rattle.tree.proofs.tables.Tabling.{size-small}
+use Rattle.tree.proofs.tables.Changing.{Changed, changed-first, room-for-more, changed-next, column-is}
 use Rattle.tree.proofs.group.changes.Statement.{statement}
 use Rattle.tree.proofs.group.changes.Tie as tie
 

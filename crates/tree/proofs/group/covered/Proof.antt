@@ -3,8 +3,8 @@ use Prim.Native.Nat.{_-_, _*_, _<_}
 use mathlib.Core.Path.{refl, sym}
 use native.Mathlib.Omega.{arith}
 use borrow.Author.Needs.{needs}
-use Rattle.tree.proofs.Tabling.{few-groups, first-seat-fits}
-use Rattle.tree.proofs.Covering.{Covering, covering-first, room-behind, some-done, covering-next}
+use Rattle.tree.proofs.tables.Tabling.{few-groups, first-seat-fits}
+use Rattle.tree.proofs.tables.Covering.{Covering, covering-first, room-behind, some-done, covering-next}
 use Rattle.tree.proofs.group.covered.Statement.{statement}
 use Rattle.tree.proofs.group.covered.Tie as tie
 

@@ -5,7 +5,7 @@ use native.Mathlib.Omega.{arith}
 use lib.Bits.{bitXor}
 use lib.ListN.{getD}
 use borrow.Author.Needs.{needs}
-use Rattle.tree.proofs.WordsDoubled.{Turned, turned-none, turned-next, turned-all}
+use Rattle.tree.proofs.tables.WordsDoubled.{Turned, turned-none, turned-next, turned-all}
 use Rattle.tree.proofs.group.double_moved.Statement.{statement}
 use Rattle.tree.proofs.group.double_moved.Tie as tie
 

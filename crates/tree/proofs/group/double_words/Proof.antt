@@ -3,7 +3,7 @@ use Prim.Native.Nat.{_-_}
 use native.Mathlib.Omega.{arith}
 use lib.Bits.{bitXor}
 use borrow.Author.Needs.{needs}
-use Rattle.tree.proofs.WordsDoubled.{Turned, turned-none, turned-next, turned-all}
+use Rattle.tree.proofs.tables.WordsDoubled.{Turned, turned-none, turned-next, turned-all}
 use Rattle.tree.proofs.group.double_words.Statement.{statement}
 use Rattle.tree.proofs.group.double_words.Tie as tie
 

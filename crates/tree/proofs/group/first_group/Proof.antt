@@ -6,7 +6,7 @@ use lib.Bits.{bitXor}
 use borrow.Author.Needs.{needs}
 use Rattle.rules.specs.Below.{sumBelow}
 use Rattle.laws.specs.seats.SeatWords.{unseatBelow}
-use Rattle.tree.proofs.Tabling.{size-small, group-next, group-whole}
+use Rattle.tree.proofs.tables.Tabling.{size-small, group-next, group-whole}
 use Rattle.tree.proofs.group.first_group.Statement.{statement}
 use Rattle.tree.proofs.group.first_group.Tie as tie
 

@@ -7,7 +7,7 @@ use lib.ListN.{length, length-set, getD}
 use borrow.Author.Needs.{needs}
 use Rattle.laws.specs.numbers.Each.{each-stored}
 use Rattle.laws.specs.seats.Decided.{shutOf}
-use Rattle.tree.proofs.Tabling.{few-groups, first-seat-fits, shut-here}
+use Rattle.tree.proofs.tables.Tabling.{few-groups, first-seat-fits, shut-here}
 use Rattle.tree.proofs.group.shut.Statement.{statement}
 use Rattle.tree.proofs.group.shut.Tie as tie
 

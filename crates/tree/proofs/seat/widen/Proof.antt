@@ -2,7 +2,7 @@
 use Prim.Native.Nat.{_-_}
 use mathlib.Core.Path.{_≡_}
 use native.Mathlib.Omega.{arith}
-use Rattle.tree.proofs.Widening.{Turns, no-turn, still, one-turn, all-turns}
+use Rattle.tree.proofs.tables.Widening.{Turns, no-turn, still, one-turn, all-turns}
 use Rattle.tree.proofs.seat.widen.Statement.{statement}
 use Rattle.tree.proofs.seat.widen.Tie as tie
 

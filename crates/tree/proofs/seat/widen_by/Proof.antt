@@ -9,7 +9,7 @@ use borrow.Author.Needs.{needs}
 use borrow.Author.Tests.{eq-eqb, ne-eqb}
 use Rattle.laws.specs.numbers.Bits.{power-shifted}
 use Rattle.laws.specs.seats.Seats.{widened, hasBit}
-use Rattle.tree.proofs.WideningBy.{Widened, widened-none, widened-room, widened-passing, widened-failing}
+use Rattle.tree.proofs.tables.WideningBy.{Widened, widened-none, widened-room, widened-passing, widened-failing}
 use Rattle.tree.proofs.seat.widen_by.Statement.{statement}
 use Rattle.tree.proofs.seat.widen_by.Tie as tie
 

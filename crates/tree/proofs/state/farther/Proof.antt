@@ -1,5 +1,5 @@
 -- `tree::state::farther` meets its contract.
-use Rattle.tree.proofs.Keeping.{farther-right}
+use Rattle.tree.proofs.nodes.Keeping.{farther-right}
 use Rattle.tree.proofs.state.farther.Statement.{statement}
 use Rattle.tree.proofs.state.farther.Tie as tie
 

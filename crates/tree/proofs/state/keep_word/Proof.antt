@@ -1,7 +1,7 @@
 -- `tree::state::keep_word` meets its contract.
 use mathlib.Core.Path.{refl, sym, _∙_}
 use borrow.Author.Needs.{needs}
-use Rattle.tree.proofs.Keeping.{keep-nearer, keep-smaller, keep-former, keep-farther}
+use Rattle.tree.proofs.nodes.Keeping.{keep-nearer, keep-smaller, keep-former, keep-farther}
 use Rattle.tree.proofs.state.keep_word.Statement.{statement}
 use Rattle.tree.proofs.state.keep_word.Tie as tie
 

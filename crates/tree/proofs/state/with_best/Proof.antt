@@ -1,6 +1,6 @@
 -- `tree::state::with_best` meets its contract.
 use mathlib.Core.Path.{refl}
-use Rattle.tree.proofs.Keeping.{has-best}
+use Rattle.tree.proofs.nodes.Keeping.{has-best}
 use Rattle.tree.proofs.state.with_best.Statement.{statement}
 use Rattle.tree.proofs.state.with_best.Tie as tie
 

@@ -5,8 +5,8 @@ use mathlib.Core.Logic.{⊎-elim}
 use native.Mathlib.Omega.{arith}
 use borrow.Author.Needs.{needs}
 use borrow.Author.Tests.{ltb-true, ltb-false}
-use Rattle.tree.proofs.Steps.{narrow, few-groups, inside, change-fits, near-fits, reached-fits, given-down}
-use Rattle.tree.proofs.Trying.{Trying, below, total-is, product-is, next-is, at-leaf, given-next, trying-none, trying-end, trying-shut, trying-out, trying-cut, trying-stopped, trying-back}
+use Rattle.tree.proofs.nodes.Steps.{narrow, few-groups, inside, change-fits, near-fits, reached-fits, given-down}
+use Rattle.tree.proofs.nodes.Trying.{Trying, below, total-is, product-is, next-is, at-leaf, given-next, trying-none, trying-end, trying-shut, trying-out, trying-cut, trying-stopped, trying-back}
 use borrow.Fn.Kinds.{In}
 use borrow.Fn.PlainCycle.{Measures, is, falls, and}
 use Rattle.tree.proofs.walk.node.Reads as node

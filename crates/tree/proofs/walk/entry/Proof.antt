@@ -1,6 +1,6 @@
 -- `tree::walk::entry` meets its contract.
 use native.Mathlib.Omega.{arith}
-use Rattle.tree.proofs.Packing.{entries-shifted, row-in-table, place-in-row}
+use Rattle.tree.proofs.tables.Packing.{entries-shifted, row-in-table, place-in-row}
 use borrow.Author.Needs.{needs}
 use Rattle.tree.proofs.walk.entry.Statement.{statement}
 use Rattle.tree.proofs.walk.entry.Tie as tie

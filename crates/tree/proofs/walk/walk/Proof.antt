@@ -10,8 +10,8 @@ use Rattle.laws.specs.seats.Decided.{decided-none, blank-none}
 use Rattle.tree.specs.Grouping.{Grouped}
 use Rattle.tree.specs.Nodes.{Begun, most}
 use Rattle.tree.specs.declared.group.Tree.{Tree}
-use Rattle.tree.proofs.Tabling.{all-indices}
-use Rattle.tree.proofs.Trying.{running-state, under}
+use Rattle.tree.proofs.tables.Tabling.{all-indices}
+use Rattle.tree.proofs.nodes.Trying.{running-state, under}
 use borrow.Author.Needs.{needs}
 use Rattle.tree.proofs.walk.walk.Statement.{statement}
 use Rattle.tree.proofs.walk.walk.Tie as tie

@@ -16,9 +16,9 @@ use Rattle.laws.specs.seats.SeatedDown.{groups-blocks}
 use Rattle.tree.specs.declared.group.Tree.{Tree}
 use Rattle.tree.specs.Grouping.{Grouped, Doubled}
 use Rattle.tree.specs.Seating.{Seated}
-use Rattle.tree.proofs.SeatLoops.{index-at}
-use Rattle.tree.proofs.Tabling.{few-groups, first-seat}
-use Rattle.tree.proofs.WordsDoubled.{Begins, begins-doubled}
+use Rattle.tree.proofs.tables.SeatLoops.{index-at}
+use Rattle.tree.proofs.tables.Tabling.{few-groups, first-seat}
+use Rattle.tree.proofs.tables.WordsDoubled.{Begins, begins-doubled}
 
 -- the loop's invariant: the groups below m are done, and m is a power of two
 pub record Covering (g : Tree) (r : List ℕ) (m : ℕ) : Type 0 where

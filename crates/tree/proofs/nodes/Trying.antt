@@ -21,8 +21,8 @@ use Rattle.tree.specs.States.{keptOf, runningOf, stateOf}
 use Rattle.tree.specs.Nodes.{Given, rowCandidates, coveredIn, shutIn}
 use Rattle.tree.specs.declared.group.Tree.{Tree}
 use Rattle.tree.specs.declared.state.Walked.{Walked}
-use Rattle.tree.proofs.Rows.{rest, rest-open, rest-shut, rest-end}
-use Rattle.tree.proofs.Steps.{narrow, nearer, forced, closed, here, reached, next, open-is, fills}
+use Rattle.tree.proofs.nodes.RowRest.{rest, rest-open, rest-shut, rest-end}
+use Rattle.tree.proofs.nodes.Steps.{narrow, nearer, forced, closed, here, reached, next, open-is, fills}
 
 -- a state within the allowance, and one beyond it
 pub running-state : (allowance : ℕ) (s : Walked) → s .visits ≤ allowance → stateOf allowance s ≡ some (runningOf s)

@@ -24,8 +24,8 @@ use Rattle.tree.specs.Search.{searchAnswer}
 use Rattle.tree.specs.Reading.{decodedOf}
 use Rattle.tree.specs.declared.Decoded.{Decoded}
 use Rattle.tree.specs.declared.state.Walked.{Walked}
-use Rattle.tree.proofs.Keeping.{has-best, no-best}
-use Rattle.tree.proofs.Trying.{running-state, ended-state}
+use Rattle.tree.proofs.nodes.Keeping.{has-best, no-best}
+use Rattle.tree.proofs.nodes.Trying.{running-state, ended-state}
 
 -- none by a test that picks none or some: the test passed; some: it failed, and picked that
 test-none : (t : Bool) (x : State keepBest) → none ≡ cond t none (some x) → t ≡ true

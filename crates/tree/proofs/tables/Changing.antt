@@ -19,9 +19,9 @@ use Rattle.laws.specs.seats.Copied.{change-more}
 use Rattle.tree.specs.declared.group.Tree.{Tree}
 use Rattle.tree.specs.Grouping.{Grouped, Doubled}
 use Rattle.tree.specs.Seating.{Seated}
-use Rattle.tree.proofs.SeatLoops.{index-at, index-fits}
-use Rattle.tree.proofs.Tabling.{size-small, seat-within}
-use Rattle.tree.proofs.WordsDoubled.{Begins, begins-doubled}
+use Rattle.tree.proofs.tables.SeatLoops.{index-at, index-fits}
+use Rattle.tree.proofs.tables.Tabling.{size-small, seat-within}
+use Rattle.tree.proofs.tables.WordsDoubled.{Begins, begins-doubled}
 
 -- the changes of the patterns below 2 ^ t
 pub record Changed (g : Tree) (l : List ℕ) (t : ℕ) : Type 0 where

@@ -23,8 +23,8 @@ use Rattle.tree.specs.declared.group.Tree.{Tree}
 use Rattle.tree.specs.Grouping.{GroupSize}
 use Rattle.tree.specs.Grouping.{Grouped, Shut}
 use Rattle.tree.specs.Seating.{Seated}
-use Rattle.tree.proofs.Building as sizes
-use Rattle.tree.proofs.SeatLoops.{index-at, index-fits, unseat-next}
+use Rattle.tree.proofs.tables.GroupSizes as sizes
+use Rattle.tree.proofs.tables.SeatLoops.{index-at, index-fits, unseat-next}
 
 -- the number of m ones has a one at each index below m
 bit-ones : (m t : ℕ) → t < m → bit (2 ^ m - 1) t ≡ 1

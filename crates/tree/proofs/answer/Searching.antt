@@ -36,8 +36,8 @@ use Rattle.tree.specs.Nodes.{Tabled, rowCandidates, most, coveredIn, shu
 use Rattle.tree.specs.States.{empty}
 use Rattle.tree.specs.Search.{Searchable}
 use Rattle.tree.specs.declared.group.Tree.{Tree}
-use Rattle.tree.proofs.SeatLoops.{index-at}
-use Rattle.tree.proofs.Tabling.{size-small, all-indices, frozen-block}
+use Rattle.tree.proofs.tables.SeatLoops.{index-at}
+use Rattle.tree.proofs.tables.Tabling.{size-small, all-indices, frozen-block}
 
 module _ {levels : List ℤ} {g : Tree} (grouped : Grouped g) (given : Searchable (g .n) levels (g .folding)) {index : List ℕ}
     (seated : Seated index (g .n) (g .folding)) where

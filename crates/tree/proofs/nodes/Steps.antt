@@ -23,9 +23,9 @@ use Rattle.tree.specs.Grouping.{Grouped}
 use Rattle.tree.specs.Nodes.{Given, rowCandidates, most, coveredIn, shutIn, nearIn}
 use Rattle.tree.specs.declared.group.Tree.{Tree}
 use Rattle.tree.specs.declared.state.Walked.{Walked}
-use Rattle.tree.proofs.Rows.{rest}
-use Rattle.tree.proofs.Building.{by-size}
-use Rattle.tree.proofs.Tabling.{shape, size-small, all-indices, few-groups as at-most, frozen-block}
+use Rattle.tree.proofs.nodes.RowRest.{rest}
+use Rattle.tree.proofs.tables.GroupSizes.{by-size}
+use Rattle.tree.proofs.tables.Tabling.{shape, size-small, all-indices, few-groups as at-most, frozen-block}
 
 -- the row of a group among 64 slots is in the table
 in-table : {size : ℕ} (k : ℕ) → GroupSize size → suc k * size ≤ 64 → k * 2 ^ size < 2048
