@@ -1,4 +1,4 @@
 pub mod tables
 pub mod nodes
-pub mod answer
+pub mod deciding
 pub mod Unique

@@ -16,7 +16,7 @@ use Rattle.word.specs.Words.{wordOf}
 use Rattle.word.specs.Sizes.{slots-right}
 use Rattle.checks.specs.Passing.{folded-passed, folded-refused-first}
 use Rattle.tree.specs.Search.{searchAnswer}
-use Rattle.tree.proofs.answer.FirstOut.{range-right, range-wrong, in-range}
+use Rattle.tree.proofs.deciding.FirstOut.{range-right, range-wrong, in-range}
 use Rattle.tree.proofs.decode.Statement.{statement}
 use Rattle.tree.proofs.decode.Tie as tie
 

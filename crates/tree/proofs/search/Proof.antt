@@ -12,9 +12,9 @@ use Rattle.tree.specs.Grouping.{Grouped}
 use Rattle.tree.specs.Empty.{firstEmpty}
 use Rattle.tree.specs.Search.{Searchable}
 use Rattle.tree.specs.declared.group.Tree.{Tree}
-use Rattle.tree.proofs.answer.Emptiness.{few-shut}
-use Rattle.tree.proofs.answer.Searching.{levelled, tables-right, walked}
-use Rattle.tree.proofs.answer.Found.{Ends, used-up, enough, distance-fits, visits-fit, found-right, answer-seven, answer-eight, answer-found}
+use Rattle.tree.proofs.deciding.Emptiness.{few-shut}
+use Rattle.tree.proofs.deciding.Searching.{levelled, tables-right, walked}
+use Rattle.tree.proofs.deciding.Found.{Ends, used-up, enough, distance-fits, visits-fit, found-right, answer-seven, answer-eight, answer-found}
 use Rattle.tree.proofs.search.Statement.{statement}
 use Rattle.tree.proofs.search.Tie as tie
 
