@@ -1,5 +1,4 @@
 // The line of an answer, written into a lent buffer from a place on.
-ghost use mathlib.Core.Path.{_≡_};
 ghost use Prim.Native.Nat.{ℕ, _+_, _≤_};
 ghost use lib.ListN.{length};
 ghost use Rattle.rules.specs.Text.{line};

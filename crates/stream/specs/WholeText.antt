@@ -1,9 +1,9 @@
 -- Law of the pieces: read and written one after another, they give the rules' text of the whole input, or, where a read fails, of
 -- the whole records before that.
-use Prim.Native.Nat.{ℕ, zero, suc, _+_, _-_, _*_, _/_, _≤_, _<_, min}
+use Prim.Native.Nat.{ℕ, zero, suc, _+_, _-_, _*_, _≤_, _<_, min}
 use mathlib.Core.Path.{_≡_, refl, sym, ap, _∙_}
 use mathlib.Core.Bool.{Bool, true, false, _&&_, cond}
-use mathlib.Core.List.{List, [], _++_, append-nil}
+use mathlib.Core.List.{List, _++_, append-nil}
 use native.Mathlib.Nat.{le-refl}
 use native.Mathlib.Decide.{decLt}
 use native.Mathlib.Omega.{arith}
@@ -14,7 +14,7 @@ use lib.Seq.{length-take-le, take-all, take-take, take-add}
 use Rattle.rules.specs.Record.{recordBytes}
 use Rattle.rules.specs.Text.{mostRecords, textFrom}
 use Rattle.laws.specs.answers.Texts.{text-stops, text-append}
-use Rattle.stream.specs.Pieces.{pieceRecords, mostBytes, pieceBytes, takenOf, nextPiece, goOn, piecesText}
+use Rattle.stream.specs.Pieces.{pieceRecords, pieceBytes, takenOf, nextPiece, goOn, piecesText}
 use Rattle.stream.specs.declared.piece.Next.the-variants.{Piece, End}
 
 -- ---- the next piece

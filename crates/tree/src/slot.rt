@@ -3,7 +3,6 @@
 ghost use mathlib.Core.Path.{_≡_};
 ghost use Prim.Native.Nat.{_+_, _*_, _<_};
 ghost use lib.ListN.{length, getD};
-ghost use Rattle.rules.specs.Below.{sumBelow};
 ghost use Rattle.rules.specs.Level.{levelAt};
 ghost use Rattle.tree.specs.Grouping.{Grouped};
 ghost use Rattle.tree.specs.Slots.{SmallSeats, Levelled, GroupGives, Gives, Ranked};

@@ -3,7 +3,7 @@ use Prim.Native.Nat.{ℕ, suc, _-_, _^_, _≤_, _<_}
 use mathlib.Core.Path.{_≡_, refl, sym, ap, _∙_}
 use mathlib.Core.Logic.{_↔_}
 use mathlib.Core.Bool.{Bool, true, false, not}
-use mathlib.Core.Option.{Option, none, some, Option·none-ne-some}
+use mathlib.Core.Option.{none}
 use mathlib.Core.List.{List, [], _∷_, _++_}
 use native.Mathlib.Omega.{arith}
 use lib.IntN.{ℤ}
@@ -14,7 +14,7 @@ use Rattle.rules.specs.Below.{firstBelow}
 use Rattle.rules.specs.Level.{inRange, levelAt, levelCost}
 use Rattle.rules.specs.Folding.{group, groups}
 use Rattle.rules.specs.Walk.{fillings, walkVisits}
-use Rattle.rules.specs.Refusals.{Refusal, refused, done, answer, refuse, refuseAt, isEmpty, wrongSize, wrongLength, wrongMask, outOfRange, noCandidate, smallAllowance}
+use Rattle.rules.specs.Refusals.{Refusal, refused, answer, refuse, refuseAt, isEmpty, wrongSize, wrongLength, wrongMask, outOfRange, noCandidate, smallAllowance}
 use Rattle.rules.specs.Orders.{codeOrder, foldingOrder, foldedOrder, walkOrder, decodeOrder}
 use Rattle.laws.specs.numbers.Sums.{none-at, none-of}
 use Rattle.laws.specs.walk.FillingCount.{unfrozenIn, fillings-number}

@@ -1,6 +1,6 @@
 -- Laws of `countBelow`. `place mask i` and `messageBits n mask` of the rules are `countBelow i (unfrozen mask)` and
 -- `countBelow (2 ^ n) (unfrozen mask)`, so at `test = unfrozen mask` these are the laws of places.
-use Prim.Native.Nat.{ℕ, zero, suc, _≤_, _<_, zero-le}
+use Prim.Native.Nat.{ℕ, zero, suc, _≤_, _<_}
 use mathlib.Core.Path.{_≡_, refl}
 use mathlib.Core.Bool.{Bool, true, false}
 use native.Mathlib.Nat.{not-suc-le-zero}

@@ -1,17 +1,17 @@
--- Sorted rows: the patterns of a group with their branch distances, by merging, one slot more at a time. An entry is the
--- distance times 256 plus the pattern, so that the order of numbers is document 01's order of candidates.
+-- Sorted rows: the patterns of a group with what its slots add up to, by merging, one slot more at a time. An entry is the sum
+-- times 256 plus the pattern, so that the order of numbers is that of sums, and of patterns among equal sums.
 use Prim.Native.Nat.{ℕ, zero, suc, _+_, _*_, _-_, _/_, _%_, _^_, _≤_, _<_}
 use mathlib.Core.Path.{_≡_, refl, sym, ap, _∙_}
 use mathlib.Core.Logic.{_⊎_, inl, inr, ⊎-elim, _≢_}
 use mathlib.Core.Bool.{Bool, true, false, cond}
-use mathlib.Core.List.{List, [], _∷_, _++_, map, List·Memᴰ, List·Memᴰ·head, List·Memᴰ·tail, List·Memᴰ·not-nil, List·Memᴰ·cases-cons, List·Memᴰ·eq-of-singleton}
+use mathlib.Core.List.{List, [], _∷_, map, List·Memᴰ, List·Memᴰ·head, List·Memᴰ·tail, List·Memᴰ·not-nil, List·Memᴰ·cases-cons, List·Memᴰ·eq-of-singleton}
 use native.Mathlib.Nat.{le-refl, add-zero, one-mul, two-pow-succ}
 use native.Mathlib.Decide.{decLt}
 use native.Mathlib.Omega.{arith}
 use lib.Dec.{ltb}
-use lib.ListN.{length, getD, take, drop, length-map, length-take}
+use lib.ListN.{length, getD, drop, length-map}
 use lib.Pow.{pow-pos, pow-mono}
-use lib.Seq.{drop-cons, take-suc, getD-take}
+use lib.Seq.{drop-cons}
 use borrow.Author.Tests.{lt-ltb, le-ltb, ltb-true, ltb-false}
 use Rattle.rules.specs.Below.{sumBelow}
 use Rattle.rules.specs.Word.{bit}
@@ -123,30 +123,6 @@ merge-rising =
       h p (q .1) (λ a b i j. n a b i (List·Memᴰ·tail j)),
     ))
 
--- a number above the first list, and last in the second, comes last
-merge-last-second : (y : ℕ) (xs ys : List ℕ) → ((i : ℕ) → i < length xs → getD xs i 0 < y)
-    → merge xs (ys ++ y ∷ []) ≡ merge xs ys ++ y ∷ []
-unfolding merge
-merge-last-second y =
-    merge-ind (λ xs ys r. ((i : ℕ) → i < length xs → getD xs i 0 < y) → merge xs (ys ++ y ∷ []) ≡ r ++ y ∷ []) (λ ys h. refl)
-    (λ x xs r h. rw (lt-ltb x y (h 0 (omega arith))) (ap (λ (s : List ℕ). x ∷ s) (r (λ i l. h (suc i) (omega arith)))))
-    (λ x z xs ys l r h. rw (lt-ltb x z l) (ap (λ (s : List ℕ). x ∷ s) (r (λ i l. h (suc i) (omega arith)))))
-    (λ x z xs ys l r h. rw (le-ltb x z l) (ap (λ (s : List ℕ). z ∷ s) (r h)))
-
--- a number not below the second list, and last in the first, comes last
-merge-last-first : (x : ℕ) (xs ys : List ℕ) → ((i : ℕ) → i < length ys → getD ys i 0 ≤ x)
-    → merge (xs ++ x ∷ []) ys ≡ merge xs ys ++ x ∷ []
-unfolding merge
-merge-last-first x =
-    merge-ind (λ xs ys r. ((i : ℕ) → i < length ys → getD ys i 0 ≤ x) → merge (xs ++ x ∷ []) ys ≡ r ++ x ∷ []) alone
-    (λ z xs r h. ap (λ (s : List ℕ). z ∷ s) (r h))
-    (λ z y xs ys l r h. rw (lt-ltb z y l) (ap (λ (s : List ℕ). z ∷ s) (r h)))
-    (λ z y xs ys l r h. rw (le-ltb z y l) (ap (λ (s : List ℕ). y ∷ s) (r (λ i l. h (suc i) (omega arith)))))
-  where
-    alone : (ys : List ℕ) → ((i : ℕ) → i < length ys → getD ys i 0 ≤ x) → merge (x ∷ []) ys ≡ ys ++ x ∷ []
-    alone [] h = refl
-    alone (y ∷ ys) h = rw (le-ltb x y (h 0 (omega arith))) (ap (λ (s : List ℕ). y ∷ s) (alone ys (λ i l. h (suc i) (omega arith))))
-
 module _ (xs ys : List ℕ) (a b : ℕ) where
   -- of what is left of both lists, the first one's head goes
   pub merge-front-first : a < length xs → b < length ys → getD xs a 0 < getD ys b 0
@@ -157,18 +133,6 @@ module _ (xs ys : List ℕ) (a b : ℕ) where
   pub merge-front-second : a < length xs → b < length ys → getD ys b 0 ≤ getD xs a 0
       → merge (drop a xs) (drop b ys) ≡ getD ys b 0 ∷ merge (drop a xs) (drop (suc b) ys)
   merge-front-second la lb h = rw (drop-cons xs a 0 la, drop-cons ys b 0 lb) (merge-second _ _ _ _ h)
-
-  -- of the first parts of both lists, the first one's end comes last
-  pub merge-back-first : a < length xs → ((i : ℕ) → i < b → getD ys i 0 ≤ getD xs a 0)
-      → merge (take (suc a) xs) (take b ys) ≡ merge (take a xs) (take b ys) ++ getD xs a 0 ∷ []
-  merge-back-first la h =
-      rw (take-suc xs a 0 la) (merge-last-first _ _ _ (λ i l. let k : i < b = omega (arith, length-take b ys) in rw (getD-take b ys i 0 k) (h i k)))
-
-  -- or the second one's
-  pub merge-back-second : b < length ys → ((i : ℕ) → i < a → getD xs i 0 < getD ys b 0)
-      → merge (take a xs) (take (suc b) ys) ≡ merge (take a xs) (take b ys) ++ getD ys b 0 ∷ []
-  merge-back-second lb h =
-      rw (take-suc ys b 0 lb) (merge-last-second _ _ _ (λ i l. let k : i < a = omega (arith, length-take a xs) in rw (getD-take a xs i 0 k) (h i k)))
 
 -- a row with one slot more: a is what bit 0 adds to an entry, b what bit 1 adds
 abbrev pub doubled : ℕ → ℕ → List ℕ → List ℕ

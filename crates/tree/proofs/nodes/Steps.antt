@@ -1,5 +1,5 @@
 -- One step of a node: what is known where a group's candidates are tried, and of the node one level down.
-use Prim.Native.Nat.{ℕ, suc, _+_, _*_, _/_, _%_, _^_, _≤_, _<_}
+use Prim.Native.Nat.{ℕ, suc, _+_, _*_, _%_, _^_, _≤_, _<_}
 use mathlib.Core.Path.{_≡_, refl, sym, ap, ap₂, _∙_}
 use mathlib.Core.List.{List}
 use native.Mathlib.Nat.{suc-mul, mul-comm, mul-le-mul-right, lt-of-lt-of-le}

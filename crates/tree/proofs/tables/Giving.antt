@@ -12,7 +12,6 @@ use lib.ListN.{length, getD, set, replicate, length-set, length-replicate, getD-
 use lib.Pow.{pow-pos}
 use lib.Seq.{getD-set-same, getD-set-other}
 use Rattle.rules.specs.Below.{sumBelow}
-use Rattle.rules.specs.Level.{limit, inRange}
 use Rattle.laws.specs.numbers.Sums.{sum-le, sum-const}
 use Rattle.laws.specs.rows.SortedRows.{row-cong}
 use Rattle.laws.specs.distance.Excess.{excess, nearest, excess-greatest, nearest-greatest, excess-one-bit}

@@ -6,7 +6,6 @@ use native.Mathlib.Nat.{mul-le-mul-right, suc-mul}
 use native.Mathlib.Omega.{arith}
 use lib.IntN.{ℤ}
 use lib.ListN.{length, length-set}
-use borrow.Author.Needs.{needs}
 use Rattle.tree.specs.Slots.{Levelled, Gives}
 use Rattle.tree.proofs.tables.Tabling.{few-groups}
 use Rattle.tree.proofs.tables.Giving.{later-seats, all-none, all-next}
