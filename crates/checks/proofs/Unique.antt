@@ -5,8 +5,10 @@ use Rattle.checks.specs.Unique.{verdict-injective}
 use Rattle.checks.proofs.code.Reads as code
 use Rattle.checks.proofs.folded.Reads as folded
 
+-- of the tests of a code
 pub code-unique : OneResult code.Learnt
 code-unique κs a r s v w p q = verdict-injective r s (one-answer p q)
 
+-- and of those of a code and a folding
 pub folded-unique : OneResult folded.Learnt
 folded-unique κs a r s v w p q = verdict-injective r s (one-answer p q)

@@ -13,10 +13,12 @@ use Rattle.rules.specs.Answers.{Encoded, encoded, encodeAnswer, encodeLevelsAns
 use Rattle.laws.specs.answers.Orders.{passed, answer-after, lentOrder, lent-right, levels-parts}
 
 module _ (n : ℕ) (slice : List ℤ) (mask message : ℕ) where
+  -- a wrong n is refusal 1
   pub levels-size : isWrongSize n ≡ true → refused (record { number = 1; values = [] }) ≡ encodeLevelsAnswer n slice mask message
   unfolding encodeLevelsAnswer
   levels-size wrong = rw (levels-parts n slice mask message (encoded n mask message), wrong)
 
+  -- else a slice that is not N long is refusal 2
   pub levels-length : isWrongSize n ≡ false → (length slice ≡ 2 ^ n → ⊥)
       → refused (record { number = 2; values = [] }) ≡ encodeLevelsAnswer n slice mask message
   unfolding encodeLevelsAnswer

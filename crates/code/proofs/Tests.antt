@@ -28,20 +28,20 @@ module _ (n : ℕ) (small : n ≤ largest) where
       sym (test ∙ ap (λ (m : ℕ). leb (2 ^ m) message) (count ∙ ap (λ (k : ℕ). messageBits k mask) own-size))
 
   -- the words of a message, made at the size and mapped at the largest n, are the rules'
-  pub words-right : (mask message d x : ℕ) → d ≡ spread (sizeOf n) mask message → x ≡ codeword 6 d
+  pub words-right : (mask message d x : ℕ) → d ≡ spread (sizeOf n) mask message → x ≡ codeword largest d
       → _≡_ {A = Encoded} (record { d = d; x = x }) (encoded n mask message)
   words-right mask message d x isWord isCode =
       let word : d ≡ spread n mask message = isWord ∙ ap (λ (k : ℕ). spread k mask message) own-size in
       let code : x ≡ codeword n (spread n mask message) =
-      isCode ∙ ap (codeword 6) word ∙ codeword-longer n 6 _ small (spread-lt n mask message)
+      isCode ∙ ap (codeword largest) word ∙ codeword-longer n largest _ small (spread-lt n mask message)
       in
       λ i. record { d = word i; x = code i }
 
 -- the fewest ones of an index are few, and 256 times their power of two fits
-pub fewest-small : (n mask w : ℕ) → fewestOnes (sizeOf n) mask ≡ some w → w ≤ 6
+pub fewest-small : (n mask w : ℕ) → fewestOnes (sizeOf n) mask ≡ some w → w ≤ largest
 fewest-small n mask w e =
     let at = least-some-at (unfrozen mask) ones (2 ^ sizeOf n) w e in
     omega (arith, ones-le (sizeOf n) (at .index) (at .inside), at .value)
 
-pub guard-fits : (w : ℕ) → w ≤ 6 → 256 * 2 ^ w % 2 ^ 32 ≡ 256 * 2 ^ w
+pub guard-fits : (w : ℕ) → w ≤ largest → 256 * 2 ^ w % 2 ^ 32 ≡ 256 * 2 ^ w
 guard-fits w small = shl-exact 9 w 32 (omega arith) (omega arith)

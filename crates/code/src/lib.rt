@@ -37,8 +37,8 @@ pub enum Encoded {
 }
 
 impl Code {
-    // The frozen mask of RM(64,57), at n = 6.
-    pub const RM_64_57: Word = 0x0000000100010117;
+    // The frozen mask of RM(64,57), at n = 6, as a number.
+    pub const RM_64_57: u64 = 0x0000000100010117;
 
     // RM(64,57).
     pub fn reed_muller() -> Code
@@ -46,7 +46,7 @@ impl Code {
     {
         Code {
             n: 6,
-            frozen: Code::RM_64_57,
+            frozen: word::of(Code::RM_64_57),
         }
     }
 

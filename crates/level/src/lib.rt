@@ -17,9 +17,6 @@ use word::Word;
 // The greatest magnitude of a level.
 pub const LIMIT: i32 = 1024;
 
-// How many slots the largest block has, as many as a word has bits.
-const SLOTS: usize = 64;
-
 // What a slot costs: at its nearer bit, and by how many times 1024 bit 0 and bit 1 cost more than that.
 pub struct Slot {
     pub nearest: u64,
@@ -87,7 +84,11 @@ pub fn clipped(size: u32) -> i32
 fn counted(slots: usize) -> usize
     ensures { λ r. ⌜ r ≡ min slots (2 ^ largest) ⌝ }
 {
-    if slots < SLOTS { slots } else { SLOTS }
+    if slots < word::SLOTS {
+        slots
+    } else {
+        word::SLOTS
+    }
 }
 
 // The distance of a word from the levels of a block. Slots past the largest block do not count, and bits past the slice neither.

@@ -13,9 +13,9 @@ const ALLOWANCE: u32 = 4294967295;
 
 // Whether decode's words and distance are the listing's.
 fn same(found: Decoded, wanted: Least, message: u64) -> bool {
-    found.message == message
-        && found.d == wanted.d
-        && found.x == wanted.x
+    word::low(found.message) == message
+        && word::low(found.d) == wanted.d
+        && word::low(found.x) == wanted.x
         && found.distance == wanted.distance
 }
 
@@ -25,7 +25,7 @@ fn agrees(n: u32, levels: &[i32], frozen: u64, folding: u32) -> bool
 {
     let wanted = least::least_word(levels, frozen);
     let message = rule::message(levels.len(), frozen, wanted.d);
-    match tree::decode(n, levels, frozen, folding, ALLOWANCE) {
+    match tree::decode(n, levels, word::of(frozen), folding, ALLOWANCE) {
         Answer::Found(found) => same(found, wanted, message),
         Answer::Refused(_) => false,
     }

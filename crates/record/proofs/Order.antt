@@ -34,6 +34,7 @@ abbrev pub from1 : List ℕ → List (Option Refusal)
 from1 bytes = refuse 1 (isWrongSize (sizeAt bytes)) ∷ from12 bytes
 
 module _ (bytes : List ℕ) where
+  -- the whole order
   pub from-13 : readAnswer bytes ≡ answer (refuse 13 (ltb (length bytes) recordBytes) ∷ from1 bytes) (fieldsOf bytes)
   unfolding readAnswer fieldsOf notZero
   from-13 = read-parts bytes (fieldsOf bytes)

@@ -120,7 +120,7 @@ fn refused(refusal: Refusal) -> Answer
             n: 0,
             folding: 0,
             allowance: 0,
-            mask: 0,
+            mask: word::none(),
             levels: [0i32; 64],
         },
     }
@@ -141,7 +141,7 @@ pub fn read(bytes: &[u8]) -> Answer
     if !zeros(bytes, word::slots(n)) {
         return refused(Refusal::NotZero);
     }
-    let mask = eight(bytes, 8);
+    let mask = word::of(eight(bytes, 8));
     let folding = one(bytes, 1) as u32;
     let verdict = checks::folded(n, mask, folding);
     if let checks::Verdict::Refused(refusal) = verdict {

@@ -27,7 +27,7 @@ pub(crate) fn put_found(
 {
     let at = put_decimal(out, at, number as u64);
     let at = put_bytes(out, at, b" found ");
-    let at = put_hex(out, at, message);
+    let at = put_hex(out, at, word::low(message));
     let at = put_spaced(out, at, distance as u64);
     let at = put_spaced(out, at, visits as u64);
     put_bytes(out, at, b"\n")

@@ -5,16 +5,16 @@ use mathlib.Core.Bool.{Bool}
 use mathlib.Core.Option.{Option, none, some}
 use mathlib.Core.List.{List}
 use lib.Count.{ones}
-use lib.ListN.{getD}
 use Rattle.rules.specs.Below.{firstBelow}
 use Rattle.rules.specs.Folding as rules
 use Rattle.rules.specs.Walk.{fillings}
 use Rattle.rules.specs.Refusals.{isEmpty}
+use Rattle.word.specs.Words.{Held, wordAt}
 use Rattle.tree.specs.declared.group.Tree.{Tree}
 
 -- no group has more frozen indices than indices
-abbrev pub FewShut : List ℕ → Tree → Type 0
-FewShut l g = (k : ℕ) → k < g .groups → ones (getD l k 0) ≤ g .size
+abbrev pub FewShut : List Held → Tree → Type 0
+FewShut l g = (k : ℕ) → k < g .groups → ones (wordAt l k) ≤ g .size
 
 -- whether the group that level t decides has no filling
 abbrev pub isEmptyLevel : ℕ → ℕ → ℕ → ℕ → Bool

@@ -8,6 +8,7 @@ use Rattle.rules.specs.Walk.{Candidate}
 use Rattle.laws.specs.seats.Decided.{Blank}
 use Rattle.laws.specs.seats.SeatWords.{seat}
 use Rattle.laws.specs.seats.SeatedRow.{blockOf, branchOf, entryCandidates}
+use Rattle.word.specs.Words.{Held, wordAt}
 use Rattle.tree.specs.Grouping.{Grouped, Covered, Shut, Changes}
 use Rattle.rows.specs.Table.{entryAt, rowAt}
 use Rattle.tree.specs.declared.group.Tree.{Tree}
@@ -23,11 +24,11 @@ pub record Inside (size k j : ℕ) : Type 0 where
   pub group : k * 2 ^ size < 2048
   pub entry : j < 2 ^ size
 
--- the walk's tables: what each group covers, its frozen indices, what its nearer bits cost
-abbrev pub coveredIn : List (List ℕ) → List ℕ
+-- the walk's tables: words for what each group covers and for its frozen indices, and plain numbers for what its nearer bits cost
+abbrev pub coveredIn : List (List Held) → List Held
 coveredIn tables = getD tables 0 []
 
-abbrev pub shutIn : List (List ℕ) → List ℕ
+abbrev pub shutIn : List (List Held) → List Held
 shutIn tables = getD tables 1 []
 
 abbrev pub nearIn : List (List ℕ) → List ℕ
@@ -38,11 +39,11 @@ unfoldable pub rowCandidates : List (List ℕ) → List (List ℕ) → Tree → 
 rowCandidates rows tables g k d =
     entryCandidates (g .n) (g .folding) (g .size) k (getD (nearIn tables) k 0)
     (blockOf (g .size) k (codeword (g .n) (seat (g .n) (g .folding) d)))
-    (blockOf (g .size) k (seat (g .n) (g .folding) (getD (shutIn tables) k 0)))
+    (blockOf (g .size) k (seat (g .n) (g .folding) (wordAt (shutIn tables) k)))
     (rowAt rows (g .size) k)
 
 -- what the tables of a walk hold
-pub record Tabled (rows : List (List ℕ)) (change : List ℕ) (tables : List (List ℕ)) (g : Tree) : Type 0 where
+pub record Tabled (rows : List (List ℕ)) (change : List Held) (tables : List (List ℕ)) (g : Tree) : Type 0 where
   pub grouped : Grouped g
   pub bounded : (k j : ℕ) → k < g .groups → j < 2 ^ (g .size)
       → branchOf (getD (nearIn tables) k 0) (entryAt rows (g .size) k j) ≤ g .size * most
@@ -59,7 +60,7 @@ pub record Begun (g : Tree) (left partial w : ℕ) : Type 0 where
   pub room : partial + left * (g .size * most) < 2 ^ 32
 
 -- all that a node is given
-pub record Given (rows : List (List ℕ)) (change : List ℕ) (tables : List (List ℕ)) (g : Tree) (left partial w : ℕ) (s : Walked) : Type 0 where
+pub record Given (rows : List (List ℕ)) (change : List Held) (tables : List (List ℕ)) (g : Tree) (left partial w : ℕ) (s : Walked) : Type 0 where
   pub tabled : Tabled rows change tables g
   pub begun : Begun g left partial w
   pub running : s .visits ≤ g .allowance

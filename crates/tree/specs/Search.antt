@@ -8,12 +8,12 @@ use lib.IntN.{ℤ}
 use lib.ListN.{length}
 use Rattle.rules.specs.Level.{inRange, levelAt, levelCost}
 use Rattle.rules.specs.Walk.{walkVisits}
-use Rattle.rules.specs.Refusals.{Answer, answer, noCandidate, smallAllowance}
+use Rattle.rules.specs.Refusals.{Answer, answer, noCandidate, smallAllowance, largest}
 use Rattle.rules.specs.Answers.{Decoded, decoded}
 
 -- what refusals 1, 2, 4, 5 and 6 let pass
 pub record Searchable (n : ℕ) (levels : List ℤ) (folding : ℕ) : Type 0 where
-  pub small : n ≤ 6
+  pub small : n ≤ largest
   pub long : length levels ≡ 2 ^ n
   pub fits : folding < 2 ^ n
   pub few : ones folding ≤ 3

@@ -9,14 +9,15 @@ use lib.IntN.{ℤ}
 use lib.ListN.{length, getD}
 use Rattle.rules.specs.Below.{sumBelow}
 use Rattle.rules.specs.Level.{inRange, levelAt}
+use Rattle.rules.specs.Refusals.{largest}
 use Rattle.laws.specs.distance.Excess.{excess, nearest}
 use Rattle.laws.specs.rows.SortedRows.{rowOf}
 use Rattle.rows.specs.Table.{entryAt}
 use Rattle.rows.specs.Adding.{Small}
 
--- a number for each of 64 seats, small enough to be added up
+-- a number for each seat of the largest block, small enough to be added up
 pub record SmallSeats (l : List ℕ) : Type 0 where
-  pub long : length l ≡ 64
+  pub long : length l ≡ 2 ^ largest
   pub small : Small l
 
 -- the level at a seat
@@ -25,7 +26,7 @@ seatLevel levels index seat = levelAt levels (getD index seat 0)
 
 -- count seats from the first one on: each has an index with a level, and that level is in range
 pub record Levelled (levels : List ℤ) (index : List ℕ) (first count : ℕ) : Type 0 where
-  pub within : first + count ≤ 64
+  pub within : first + count ≤ 2 ^ largest
   pub held : (t : ℕ) → t < count → getD index (first + t) 0 < length levels
   pub ranged : (t : ℕ) → t < count → inRange (seatLevel levels index (first + t)) ≡ true
 

@@ -18,7 +18,7 @@ fn fillings(shut: Word, size: usize) -> u32
 }
 
 // The first level whose group has no filling, or the number of levels. Level 0 decides the last group, and so on down.
-pub(crate) fn first_empty(shut: &[Word; 64], tree: Tree) -> usize
+pub(crate) fn first_empty(shut: &[Word; word::SLOTS], tree: Tree) -> usize
     requires { ⌜ Grouped tree × FewShut (now shut) tree ⌝ }
     ensures { λ r. ⌜ ((mask : ℕ) → Shut (now (shut .entry)) tree mask → FirstEmpty (tree .n) mask (tree .folding) (tree .groups) r) ⌝ }
 {

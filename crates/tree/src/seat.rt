@@ -3,6 +3,7 @@ ghost use mathlib.Core.Path.{_≡_};
 ghost use Prim.Native.Nat.{ℕ, _+_, _*_, _^_, _≤_, _<_};
 ghost use lib.ListN.{take};
 ghost use Rattle.rules.specs.Below.{countBelow};
+ghost use Rattle.rules.specs.Refusals.{largest};
 ghost use Rattle.laws.specs.seats.Seats as laws;
 ghost use Rattle.tree.specs.Seating.{AtMost, Widens, WidensBy, Seated};
 
@@ -23,7 +24,7 @@ fn widen_by(index: &mut [usize], m: usize, n: u32, folding: u32, wanted: u32) ->
     requires { ⌜ WidensBy (now index) m n folding wanted ⌝ }
     ensures many { λ r. ⌜ r ≡ m * 2 ^ countBelow n (laws.hasBit folding wanted) ⌝ }
     ensures widened { λ r. ⌜ take r (now (index .exit)) ≡ laws.widenedBy (laws.hasBit folding wanted) n (take m (now (index .entry))) ⌝ }
-    ensures small { λ r. ⌜ ((c : ℕ) → AtMost (now (index .entry)) m c → AtMost (now (index .exit)) r (c + 64 * n)) ⌝ }
+    ensures small { λ r. ⌜ ((c : ℕ) → AtMost (now (index .entry)) m c → AtMost (now (index .exit)) r (c + 2 ^ largest * n)) ⌝ }
 {
     let mut many = m;
     let mut b: u32 = 0;
@@ -38,11 +39,11 @@ fn widen_by(index: &mut [usize], m: usize, n: u32, folding: u32, wanted: u32) ->
 }
 
 // The index at each seat.
-pub(crate) fn seats(n: u32, folding: u32) -> [usize; 64]
-    requires { ⌜ (n ≤ 6) × (folding < 2 ^ n) ⌝ }
+pub(crate) fn seats(n: u32, folding: u32) -> [usize; word::SLOTS]
+    requires { ⌜ (n ≤ largest) × (folding < 2 ^ n) ⌝ }
     ensures { λ r. ⌜ Seated r n folding ⌝ }
 {
-    let mut index = [0usize; 64];
+    let mut index = [0usize; word::SLOTS];
     let inside = widen_by(&mut index, 1, n, folding, 1);
     widen_by(&mut index, inside, n, folding, 0);
     index

@@ -23,7 +23,7 @@ pub(crate) fn start() -> Walked
     ensures { λ r. ⌜ (keptOf r ≡ nothing) × (r .visits ≡ 0) ⌝ }
 {
     Walked {
-        word: 0,
+        word: word::none(),
         distance: NO_BEST,
         visits: 0,
     }

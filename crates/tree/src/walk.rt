@@ -4,13 +4,13 @@
 ghost use mathlib.Core.Path.{_≡_};
 ghost use mathlib.Core.Option.{some};
 ghost use Prim.Native.Nat.{_*_, _%_, _^_, _<_};
-ghost use lib.ListN.{getD};
 ghost use lib.Bits.{bitAnd, bitXor};
 ghost use lib.Dec.{eqb};
+ghost use Rattle.rules.specs.Refusals.{largest};
 ghost use Rattle.rules.specs.Walk.{keepBest};
 ghost use Rattle.laws.specs.walk.Allowance.{walkIn};
 ghost use Rattle.laws.specs.seats.Decided.{decided};
-ghost use Rattle.word.specs.Words.{wordOf};
+ghost use Rattle.word.specs.Words.{wordOf, wordAt};
 ghost use Rattle.tree.specs.States.{empty, stateOf};
 ghost use Rattle.rows.specs.Table.{entryAt};
 ghost use Rattle.tree.specs.Nodes.{Inside, Tabled, Given, rowCandidates};
@@ -42,8 +42,8 @@ fn entry(rows: &[[u32; 256]; 8], size: usize, k: usize, j: usize) -> u32
 
 // The word with an entry's pattern in a group: what it changes in group 0, at each group that this one covers.
 fn changed(w: Word, change: &[Word; 256], covered: Word, e: u32) -> Word
-    requires { ⌜ wordOf covered * getD (now change) (e % 256) 0 < 2 ^ 64 ⌝ }
-    ensures { λ r. ⌜ wordOf r ≡ bitXor (wordOf w) (wordOf covered * getD (now (change .entry)) (e % 256) 0) ⌝ }
+    requires { ⌜ wordOf covered * wordAt (now change) (e % 256) < 2 ^ (2 ^ largest) ⌝ }
+    ensures { λ r. ⌜ wordOf r ≡ bitXor (wordOf w) (wordOf covered * wordAt (now (change .entry)) (e % 256)) ⌝ }
 {
     let pattern = (e % 256) as usize;
     word::xor(w, word::place::copies(covered, change[pattern]))
@@ -60,7 +60,7 @@ fn is_open(w: Word, shut: Word) -> bool
 fn node(
     rows: &[[u32; 256]; 8],
     change: &[Word; 256],
-    tables: &[[Word; 64]; 3],
+    tables: &[[Word; word::SLOTS]; 3],
     tree: Tree,
     left: usize,
     partial: u64,
@@ -105,12 +105,12 @@ fn node(
 pub(crate) fn walk(
     rows: &[[u32; 256]; 8],
     change: &[Word; 256],
-    tables: &[[Word; 64]; 3],
+    tables: &[[Word; word::SLOTS]; 3],
     tree: Tree,
 ) -> Walked
     requires { ⌜ Tabled (now rows) (now change) (now tables) tree ⌝ }
     ensures { λ r. ⌜ stateOf (tree .allowance) r ≡ walkIn keepBest (tree .allowance) (rowCandidates (now (rows .entry)) (now (tables .entry)) tree) (tree .groups) 0 0 (some empty) ⌝ }
 {
     let levels = tree.groups;
-    node(rows, change, tables, tree, levels, 0, 0, start())
+    node(rows, change, tables, tree, levels, 0, word::none(), start())
 }

@@ -9,15 +9,15 @@ use code::Made;
 pub(crate) fn given(line: &[u8]) -> Code {
     Code {
         n: line::small(line, 0),
-        frozen: line::number(line, 1),
+        frozen: word::of(line::number(line, 1)),
     }
 }
 
 pub(crate) fn new(line: &[u8]) {
-    match Code::new(line::small(line, 0), line::number(line, 1)) {
+    match Code::new(line::small(line, 0), word::of(line::number(line, 1))) {
         Made::Code(c) => {
             printing::number(b" -> code n=", c.n as u64);
-            printing::hex(b" mask=0x", c.frozen);
+            printing::hex(b" mask=0x", word::low(c.frozen));
         }
         Made::Refused(r) => printing::refused(r),
     }

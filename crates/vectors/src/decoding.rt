@@ -6,9 +6,9 @@ use tree::Answer;
 pub(crate) fn answer(answer: Answer) {
     match answer {
         Answer::Found(found) => {
-            printing::number(b" -> message=", found.message);
-            printing::hex(b" d=0x", found.d);
-            printing::hex(b" x=0x", found.x);
+            printing::number(b" -> message=", word::low(found.message));
+            printing::hex(b" d=0x", word::low(found.d));
+            printing::hex(b" x=0x", word::low(found.x));
             printing::number(b" distance=", found.distance as u64);
             printing::number(b" visits=", found.visits as u64);
         }
@@ -18,7 +18,7 @@ pub(crate) fn answer(answer: Answer) {
 
 fn decode_of(line: &[u8], levels: &[i32]) {
     let n = line::small(line, 0);
-    let frozen = line::number(line, 1);
+    let frozen = word::of(line::number(line, 1));
     answer(tree::decode(
         n,
         levels,

@@ -6,15 +6,15 @@ use code::Encoded;
 fn answer(answer: Encoded) {
     match answer {
         Encoded::Words(d, x) => {
-            printing::hex(b" -> d=0x", d);
-            printing::hex(b" x=0x", x);
+            printing::hex(b" -> d=0x", word::low(d));
+            printing::hex(b" x=0x", word::low(x));
         }
         Encoded::Refused(r) => printing::refused(r),
     }
 }
 
 pub(crate) fn encode(line: &[u8]) {
-    answer(code::encode(codes::given(line), line::number(line, 2)));
+    answer(code::encode(codes::given(line), word::of(line::number(line, 2))));
 }
 
 // A level of the slice after the call: + for 256, - for -256, . where the call wrote nothing.
@@ -38,7 +38,7 @@ fn signs(levels: &[i32]) {
 }
 
 fn encode_in(line: &[u8], slice: &mut [i32]) {
-    answer(code::levels::encode_levels(codes::given(line), line::number(line, 2), slice));
+    answer(code::levels::encode_levels(codes::given(line), word::of(line::number(line, 2)), slice));
     signs(slice);
 }
 

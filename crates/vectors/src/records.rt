@@ -9,7 +9,7 @@ fn fields(fields: Fields) {
     printing::number(b" -> n=", fields.n as u64);
     printing::hex(b" folding=0x", fields.folding as u64);
     printing::number(b" allowance=", fields.allowance as u64);
-    printing::hex(b" mask=0x", fields.mask);
+    printing::hex(b" mask=0x", word::low(fields.mask));
     let levels = fields.levels;
     printing::levels(&levels);
 }

@@ -4,7 +4,7 @@ use word::Word;
 use word::count::Fewest;
 
 fn came(w: Word) {
-    printing::hex(b" -> 0x", w);
+    printing::hex(b" -> 0x", word::low(w));
 }
 
 pub(crate) fn counted(count: u64) {
@@ -31,19 +31,20 @@ fn fewest_ones(n: u32, frozen: Word) {
 }
 
 // The one call that asks something of its caller: the copies must fit.
-fn copies(w: Word, b: Word) {
+fn copies(w: u64, b: u64) {
     if 0 < b {
         if w <= 0xffffffffffffffff / b {
-            came(word::place::copies(w, b));
+            came(word::place::copies(word::of(w), word::of(b)));
         }
     }
 }
 
-// A call by its number in the list of names, with the numbers of its line; the first of them as an n too.
-fn called(name: usize, n: u32, a: Word, b: Word, c: Word) {
+// A call by its number in the list of names, with the numbers of its line as words; the first of them as an n too, and the second
+// as an index.
+fn called(name: usize, n: u32, i: usize, a: Word, b: Word, c: Word) {
     match name {
-        0 => counted(word::bit(a, b as usize) as u64),
-        1 => said(word::count::reaches(a, b as usize)),
+        0 => counted(word::bit(a, i) as u64),
+        1 => said(word::count::reaches(a, i)),
         2 => came(word::xor(a, b)),
         3 => came(word::common(a, b)),
         4 => said(word::less(a, b)),
@@ -56,8 +57,8 @@ fn called(name: usize, n: u32, a: Word, b: Word, c: Word) {
         11 => fewest_ones(n, b),
         12 => counted(word::slots(n) as u64),
         13 => said(word::wrong_size(n)),
-        14 => came(word::place::above(a, b as usize)),
-        _ => copies(a, b),
+        14 => came(word::place::above(a, i)),
+        _ => copies(word::low(a), word::low(b)),
     }
 }
 
@@ -69,8 +70,9 @@ pub(crate) fn answer(line: &[u8]) {
     called(
         name,
         line::small(line, 0),
-        line::number(line, 0),
-        line::number(line, 1),
-        line::number(line, 2),
+        line::number(line, 1) as usize,
+        word::of(line::number(line, 0)),
+        word::of(line::number(line, 1)),
+        word::of(line::number(line, 2)),
     );
 }

@@ -1,17 +1,41 @@
 -- Bits moved one by one over the unfrozen indices: the invariant that spreading and gathering share, and its two steps.
 use Prim.Native.Nat.{ℕ, suc, _+_, _*_, _^_, _≤_, _<_}
 use mathlib.Core.Path.{_≡_, _∙_, sym, ap, ap₂, refl}
-use mathlib.Core.Bool.{true, false, cond}
-use native.Mathlib.Nat.{lt-of-lt-of-le, add-zero}
+use mathlib.Core.Bool.{Bool, true, false, cond}
+use native.Mathlib.Nat.{lt-of-lt-of-le, le-of-eq, add-zero}
 use native.Mathlib.Numerals.{add-one}
+use native.Mathlib.Omega.{arith}
 use lib.Pow.{pow-mono}
 use Rattle.rules.specs.Below.{sumBelow, countBelow}
 use Rattle.rules.specs.Word.{unfrozen, place}
+use Rattle.laws.specs.numbers.CountBelow.{count-passing, count-failing}
 use Rattle.word.proofs.Shifts.{bit-above}
 
 -- what the bits of the unfrozen indices below m add up to, index i having the bit `value i`, moved to `to i`
 abbrev pub movedBelow : ℕ → (ℕ → ℕ) → (ℕ → ℕ) → ℕ → ℕ
 movedBelow frozen value to m = sumBelow m (λ i. cond (unfrozen frozen i) (value i * 2 ^ to i) 0)
+
+-- where the bit of an unfrozen index comes from, and where it goes: to its place, or back from its place
+abbrev pub source : Bool → ℕ → ℕ → ℕ
+source packs frozen i = cond packs i (place frozen i)
+
+abbrev pub target : Bool → ℕ → ℕ → ℕ
+target packs frozen i = cond packs (place frozen i) i
+
+-- past an unfrozen index the next bit goes one higher
+pub target-next : (packs : Bool) (frozen i : ℕ) → unfrozen frozen i ≡ true → target packs frozen (suc i) ≡ suc (target packs frozen i)
+target-next true frozen i free = count-passing (unfrozen frozen) i free
+target-next false frozen i free = refl
+
+-- past a frozen one it goes no lower
+pub target-later : (packs : Bool) (frozen i : ℕ) → unfrozen frozen i ≡ false → target packs frozen i ≤ target packs frozen (suc i)
+target-later true frozen i shut = le-of-eq (sym (count-failing (unfrozen frozen) i shut))
+target-later false frozen i shut = omega arith
+
+-- it goes no higher than its index
+pub target-small : (packs : Bool) (frozen i : ℕ) → place frozen i ≤ i → target packs frozen i ≤ i
+target-small true frozen i low = low
+target-small false frozen i low = omega arith
 
 -- after the indices below i: the bits moved so far, how many there were, and that they lie below where index i goes
 pub record Moved (frozen : ℕ) (value to : ℕ → ℕ) (i sum placed : ℕ) : Type 0 where

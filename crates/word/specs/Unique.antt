@@ -1,11 +1,11 @@
 -- Each reading of this crate determines what is read.
-use Prim.Native.Nat.{ℕ}
 use mathlib.Core.Path.{_≡_, refl}
-use Rattle.word.specs.Words.{wordOf, fewestOf}
+use Rattle.word.specs.Words.{Held, wordOf, fewestOf}
 use Rattle.word.specs.declared.count.Fewest.{Fewest}
 use Rattle.word.specs.declared.count.Fewest.the-variants.{Ones, NoIndex}
 
-pub word-injective : (r s : ℕ) → wordOf r ≡ wordOf s → r ≡ s
+pub word-injective : (r s : Held) → wordOf r ≡ wordOf s → r ≡ s
+unfolding wordOf
 word-injective r s e = e
 
 pub fewest-injective : (r s : Fewest) → fewestOf r ≡ fewestOf s → r ≡ s

@@ -8,6 +8,7 @@ ghost use Rattle.rules.specs.Below.{orLess};
 ghost use Rattle.rules.specs.Word.{messageBits};
 ghost use Rattle.rules.specs.Guard.{fewestOnes};
 ghost use Rattle.word.specs.Words.{wordOf, sizeOf, fewestOf};
+use crate::SLOTS;
 use crate::Word;
 use crate::bit;
 use crate::slots;
@@ -36,7 +37,7 @@ pub fn folding_size(folding: u32) -> u32
 pub fn reaches(w: Word, i: usize) -> bool
     ensures { λ r. ⌜ r ≡ leb (2 ^ i) (wordOf w) ⌝ }
 {
-    if i < 64 { (1 << i) <= w } else { false }
+    if i < SLOTS { (1 << i) <= w } else { false }
 }
 
 // The bits of a word at the indices of the N slots.
@@ -44,7 +45,7 @@ fn slot_bits(n: u32, w: Word) -> Word
     ensures { λ r. ⌜ wordOf r ≡ wordOf w % 2 ^ (2 ^ sizeOf n) ⌝ }
 {
     let slots = slots(n);
-    if slots < 64 { w % (1 << slots) } else { w }
+    if slots < SLOTS { w % (1 << slots) } else { w }
 }
 
 // K, the number of unfrozen indices.

@@ -4,7 +4,7 @@ use mathlib.Core.Path.{_≡_, sym, _∙_}
 use native.Mathlib.Omega.{arith}
 use borrow.Author.Needs.{needs}
 use borrow.Author.Tests.{lt-ltb, le-ltb, le-leb, lt-leb}
-use Rattle.rules.specs.Refusals.{answer}
+use Rattle.rules.specs.Refusals.{answer, largest}
 use Rattle.rules.specs.Orders.{codeOrder, foldingOrder, foldedOrder}
 use Rattle.laws.specs.numbers.Bits.{power-shifted}
 use Rattle.laws.specs.answers.Orders.{Passed, answer-after, code-right}
@@ -33,7 +33,7 @@ unfolding foldedVerdict foldedOrder
 after-code c = answer-after (codeOrder (sizeAt c) (maskAt c)) (foldingOrder (sizeAt c) (foldingAt c)) tt (code-is c)
 
 -- the bound of the folding, as the machine shifts it
-small : (c : tie.After-enum-told) → sizeAt c ≤ 6
+small : (c : tie.After-enum-told) → sizeAt c ≤ largest
 small c = code-right (sizeAt c) (maskAt c) .0 (code-is c) .small
 
 bound : (c : tie.After-enum-told) → 1 * 2 ^ sizeAt c % 2 ^ 32 ≡ 2 ^ sizeAt c

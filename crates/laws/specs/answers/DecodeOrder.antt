@@ -18,7 +18,7 @@ use Rattle.rules.specs.Refusals.{Refusal, refused, answer, refuse, refuseAt, is
 use Rattle.rules.specs.Orders.{codeOrder, foldingOrder, foldedOrder, walkOrder, decodeOrder}
 use Rattle.laws.specs.numbers.Sums.{none-at, none-of}
 use Rattle.laws.specs.walk.FillingCount.{unfrozenIn, fillings-number}
-use Rattle.laws.specs.answers.Orders.{Passed, passed, passed-done, parts, answer-after, answer-again, not-refused, not-refused-at, own-number-at, refused-after, FoldedRight, folded-right, folded-numbers, lentOrder, LentRight, lent-right, lent-numbers}
+use Rattle.laws.specs.answers.Orders.{Passed, passed, passed-done, parts, answer-after, answer-again, not-refused, not-refused-at, own-number-at, refused-after, FoldedRight, folded-right, folded-other, lentOrder, LentRight, lent-right, lent-other}
 
 -- a list of fillings is never empty
 filled : (mask : ℕ) (is : List ℕ) → isEmpty (fillings mask is) ≡ false
@@ -129,14 +129,8 @@ module _ (n : ℕ) (levels : List ℤ) (mask folding allowance : ℕ) where
       ↔ DecodeRight n levels mask folding × (allowance < walkVisits n mask (levelCost levels) folding)
   decode-gives-up a = (
     λ e.
-        let lent =
-        refused-after (lentOrder n levels) (1 ∷ 2 ∷ []) (lent-numbers n levels) (foldedOrder n mask folding ++ walkOrder n levels mask folding allowance) a
-        eight refl (sym (decode-parts a) ∙ e)
-        in
-        let folded =
-        refused-after (foldedOrder n mask folding) (1 ∷ 3 ∷ 4 ∷ 5 ∷ []) (folded-numbers n mask folding) (walkOrder n levels mask folding allowance) a
-        eight refl (lent .1)
-        in
+        let lent = lent-other n levels (foldedOrder n mask folding ++ walkOrder n levels mask folding allowance) a eight refl (sym (decode-parts a) ∙ e) in
+        let folded = folded-other n mask folding (walkOrder n levels mask folding allowance) a eight refl (lent .1) in
         let walked = walk-gives-up a .0 (folded .1) in (
           record { lent = lent-right n levels .0 (lent .0); folded = folded-right n mask folding .0 (folded .0); ranged = walked .0 },
           walked .1,

@@ -51,6 +51,7 @@ accepted-right right =
       ranged = right .ranged;
     }
 
+-- and by its fields
 right-accepted : {n : ℕ} {levels : List ℤ} {mask folding : ℕ} → Accepted n levels mask folding → DecodeRight n levels mask folding
 right-accepted given =
     record {

@@ -113,12 +113,13 @@ refused-after (some q ∷ order) (number ∷ numbers) own more a r other e =
     let same : q ≡ r = cc in
     absurd (eqb-false _ _ (or-left (eqb (r .number) number) (isAmong (r .number) numbers) other) (own .0 r (ap some same)))
 
--- 1, 3 let pass: an n and a mask that are a code
+-- an n and a mask that are a code
 pub record CodeRight (n mask : ℕ) : Type 0 where
   pub some-slots : 1 ≤ n
   pub small : n ≤ largest
   pub mask-fits : mask < 2 ^ (2 ^ n)
 
+-- 1, 3 let exactly these pass
 pub code-right : (n mask : ℕ) → Passed (codeOrder n mask) ↔ CodeRight n mask
 unfolding codeOrder
 code-right n mask = (
@@ -128,11 +129,12 @@ code-right n mask = (
   λ right. (ap (refuse 1) (size-right n (right .some-slots) (right .small)), (ap (refuse 3) (lt-leb _ _ (right .mask-fits)), tt)),
 )
 
--- 4, 5 let pass: connection sets below n, and few of them
+-- a folding of connection sets below n, and few of them
 pub record FoldingRight (n folding : ℕ) : Type 0 where
   pub fits : folding < 2 ^ n
   pub few : ones folding ≤ 3
 
+-- 4, 5 let exactly these pass
 pub folding-right : (n folding : ℕ) → Passed (foldingOrder n folding) ↔ FoldingRight n folding
 unfolding foldingOrder
 folding-right n folding = (
@@ -140,11 +142,12 @@ folding-right n folding = (
   λ right. (ap (refuse 4) (lt-leb _ _ (right .fits)), (ap (refuse 5) (le-ltb _ _ (right .few)), tt)),
 )
 
--- 1, 3, 4, 5 let pass: a code, and the sets of a folding
+-- a code, and the sets of a folding
 pub record FoldedRight (n mask folding : ℕ) : Type 0 where
   pub code : CodeRight n mask
   pub sets : FoldingRight n folding
 
+-- 1, 3, 4, 5 let exactly these pass
 pub folded-right : (n mask folding : ℕ) → Passed (foldedOrder n mask folding) ↔ FoldedRight n mask folding
 unfolding foldedOrder
 folded-right n mask folding = (
@@ -154,30 +157,39 @@ folded-right n mask folding = (
   λ right. parts (codeOrder n mask) (foldingOrder n folding) .1 (code-right n mask .1 (right .code), folding-right n folding .1 (right .sets)),
 )
 
-pub folded-numbers : (n mask folding : ℕ) → Numbers (foldedOrder n mask folding) (1 ∷ 3 ∷ 4 ∷ 5 ∷ [])
+-- a refusal of another number comes after them
+pub folded-other : {A : Type 0} (n mask folding : ℕ) (more : List (Option Refusal)) (a : A) (r : Refusal)
+    → isAmong (r .number) (1 ∷ 3 ∷ 4 ∷ 5 ∷ []) ≡ false → answer (foldedOrder n mask folding ++ more) a ≡ refused r
+    → Passed (foldedOrder n mask folding) × (answer more a ≡ refused r)
 unfolding foldedOrder codeOrder foldingOrder
-folded-numbers n mask folding = (
-  own-number 1 (isWrongSize n),
-  (own-number 3 (leb (2 ^ (2 ^ n)) mask), (own-number 4 (leb (2 ^ n) folding), (own-number 5 (ltb 3 (ones folding)), tt))),
-)
+folded-other n mask folding =
+    refused-after (foldedOrder n mask folding) (1 ∷ 3 ∷ 4 ∷ 5 ∷ []) (
+      own-number 1 (isWrongSize n),
+      (own-number 3 (leb (2 ^ (2 ^ n)) mask), (own-number 4 (leb (2 ^ n) folding), (own-number 5 (ltb 3 (ones folding)), tt))),
+    )
 
 -- 1, 2: the first part of the orders that have a lent slice
 abbrev pub lentOrder : ℕ → List ℤ → List (Option Refusal)
 lentOrder n slice = wrongSize n ∷ wrongLength n slice ∷ []
 
--- 1, 2 let pass: a slice of N
+-- an n that is not refused, and a slice of N
 pub record LentRight (n : ℕ) (slice : List ℤ) : Type 0 where
   pub size : isWrongSize n ≡ false
   pub long : length slice ≡ 2 ^ n
 
+-- 1, 2 let exactly these pass
 pub lent-right : (n : ℕ) (slice : List ℤ) → Passed (lentOrder n slice) ↔ LentRight n slice
 lent-right n slice = (
   λ (size, (long, _)). record { size = not-refused 1 _ size; long = eqb-true _ _ (not-false _ (not-refused 2 _ long)) },
   λ right. (ap (refuse 1) (right .size), (ap (λ (t : Bool). refuse 2 (not t)) (eq-eqb _ _ (right .long)), tt)),
 )
 
-pub lent-numbers : (n : ℕ) (slice : List ℤ) → Numbers (lentOrder n slice) (1 ∷ 2 ∷ [])
-lent-numbers n slice = (own-number 1 (isWrongSize n), (own-number 2 (not (eqb (length slice) (2 ^ n))), tt))
+-- a refusal of another number comes after them
+pub lent-other : {A : Type 0} (n : ℕ) (slice : List ℤ) (more : List (Option Refusal)) (a : A) (r : Refusal)
+    → isAmong (r .number) (1 ∷ 2 ∷ []) ≡ false → answer (lentOrder n slice ++ more) a ≡ refused r
+    → Passed (lentOrder n slice) × (answer more a ≡ refused r)
+lent-other n slice =
+    refused-after (lentOrder n slice) (1 ∷ 2 ∷ []) (own-number 1 (isWrongSize n), (own-number 2 (not (eqb (length slice) (2 ^ n))), tt))
 
 -- encoding to levels is refused for the slice, then as encoding is: 1, 2 and then 1, 3, 9
 pub levels-parts : {A : Type 0} (n : ℕ) (slice : List ℤ) (mask message : ℕ) (a : A)

@@ -40,6 +40,7 @@ pub record Taken (bytes : List ℕ) (f : Fields) : Type 0 where
   pub right : FoldedRight (f .n) (f .mask) (f .folding)
   pub long : length (f .levels) ≡ recordSlots
 
+-- reading takes no others
 pub read-taken : (bytes : List ℕ) (f : Fields) → readAnswer bytes ≡ done f → Taken bytes f
 unfolding readAnswer fieldsOf
 read-taken bytes f e =

@@ -7,6 +7,7 @@ use lib.IntN.{ℤ}
 use mir.Syntax.{w32}
 use mir.ValLaws.{toZ-ofZ}
 use Rattle.rules.specs.Level.{levelAt, slotCost}
+use Rattle.word.specs.Words.{wordOf}
 use Rattle.level.specs.Measuring.{measuredBelow}
 use Rattle.level.proofs.Tests.{tested}
 use Rattle.level.proofs.Measuring.{SoFar, none-yet, one-more, sum-small, out-found, all-measured}
@@ -14,7 +15,7 @@ use Rattle.level.proofs.distance.Statement.{statement}
 use Rattle.level.proofs.distance.Tie as tie
 
 abbrev Inv-loop : tie.InvT-loop
-Inv-loop levels x slots sum₀ i₀ sum i = (i ≤ slots) × SoFar levels x i sum
+Inv-loop levels x slots sum₀ i₀ sum i = (i ≤ slots) × SoFar levels (wordOf x) i sum
 
 abbrev μ-loop : tie.MeasureT-loop
 μ-loop levels x slots sum₀ i₀ sum i = slots - i
@@ -41,7 +42,7 @@ returns c =
     let level = levelAt (start .args .levels .now) (at .loop .i) in
     out-found (at .loop .inv .1) _ (c .before .before .before .loop-test .taken)
     (tested level (c .before .before .level .given) (c .before .in-range .ensures) (c .if1 .taken))
-    ∙ ap (λ (slots : ℕ). measuredBelow slots (start .args .levels .now) (start .args .x)) (at .before .counted .ensures)
+    ∙ ap (λ (slots : ℕ). measuredBelow slots (start .args .levels .now) (wordOf (start .args .x))) (at .before .counted .ensures)
 
 bit-requires : tie.Need-bit-requires Inv-loop μ-loop
 bit-requires c κs = search needs
@@ -55,7 +56,7 @@ at c = c .before .before .before .before .before .before
 
 -- after the slot that was measured
 next : (c : tie.After-bit-cost Inv-loop μ-loop)
-    → SoFar (at c .before .before .args .levels .now) (at c .before .before .args .x) (at c .loop .i + 1) (at c .loop .sum + c .bit-cost .result)
+    → SoFar (at c .before .before .args .levels .now) (wordOf (at c .before .before .args .x)) (at c .loop .i + 1) (at c .loop .sum + c .bit-cost .result)
 next c =
     let level = levelAt (at c .before .before .args .levels .now) (at c .loop .i) in
     let known = c .before .before .before .before .level .given in
@@ -83,7 +84,7 @@ returns-2 c =
     let start = c .before .before .before in
     let all : c .before .loop .i ≡ c .before .before .counted .result = omega arith in
     all-measured (c .before .loop .inv .1)
-    ∙ ap (λ (slots : ℕ). measuredBelow slots (start .args .levels .now) (start .args .x)) (all ∙ c .before .before .counted .ensures)
+    ∙ ap (λ (slots : ℕ). measuredBelow slots (start .args .levels .now) (wordOf (start .args .x))) (all ∙ c .before .before .counted .ensures)
 
 pub distance-spec : {M : Type 1} → statement M
 distance-spec =

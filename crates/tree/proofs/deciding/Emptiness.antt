@@ -8,7 +8,7 @@ use native.Mathlib.Decide.{ℕ-discrete}
 use native.Mathlib.Omega.{arith}
 use lib.Count.{ones, ones-le}
 use lib.Dec.{eqb}
-use lib.ListN.{length, getD}
+use lib.ListN.{length}
 use lib.Pow.{pow-pos}
 use borrow.Author.Tests.{eq-eqb, ne-eqb}
 use Rattle.rules.specs.Folding as rules
@@ -19,6 +19,7 @@ use Rattle.laws.specs.seats.FillingNumber.{group-fillings}
 use Rattle.laws.specs.seats.SeatedRow.{blockOf}
 use Rattle.laws.specs.seats.SeatWords.{seat}
 use Rattle.laws.specs.seats.Copied.{shut-ones}
+use Rattle.word.specs.Words.{Held, wordAt}
 use Rattle.tree.specs.declared.group.Tree.{Tree}
 use Rattle.tree.specs.Grouping.{Grouped, Shut}
 use Rattle.tree.specs.Empty.{FewShut, FirstEmpty, isEmptyLevel}
@@ -29,27 +30,27 @@ empty-length [] = refl
 empty-length (x ∷ xs) = sym (ne-eqb (suc (length xs)) 0 (λ e. omega arith))
 
 -- what the code counts at a level: how many fillings the frozen indices of its group leave
-pub record Read (l : List ℕ) (g : Tree) (level many : ℕ) : Type 0 where
+pub record Read (l : List Held) (g : Tree) (level many : ℕ) : Type 0 where
   pub inside : level < g .groups
-  pub number : many ≡ 2 ^ (g .size - ones (getD l (g .groups - 1 - level) 0))
+  pub number : many ≡ 2 ^ (g .size - ones (wordAt l (g .groups - 1 - level)))
 
 -- no level before this one is empty
-pub record Passed (l : List ℕ) (g : Tree) (level : ℕ) : Type 0 where
+pub record Passed (l : List Held) (g : Tree) (level : ℕ) : Type 0 where
   pub inside : level ≤ g .groups
   pub full : (mask : ℕ) → Shut l g mask → (t : ℕ) → t < level → isEmptyLevel (g .n) mask (g .folding) t ≡ false
 
 module _ {g : Tree} (given : Grouped g) where
   -- a group's frozen indices are as many as in seat order
-  seated-ones : (l : List ℕ) (mask : ℕ) → Shut l g mask → (k : ℕ) → k < g .groups
-      → ones (getD l k 0) ≡ ones (blockOf (2 ^ ones (g .folding)) k (seat (g .n) (g .folding) mask))
+  seated-ones : (l : List Held) (mask : ℕ) → Shut l g mask → (k : ℕ) → k < g .groups
+      → ones (wordAt l k) ≡ ones (blockOf (2 ^ ones (g .folding)) k (seat (g .n) (g .folding) mask))
   seated-ones l mask shut k h = ap ones (shut k h) ∙ shut-ones (g .n) (g .folding) (given .fits) mask k (rw (given .all) at h)
 
   -- so they are no more than its indices
-  pub few-shut : (l : List ℕ) (mask : ℕ) → Shut l g mask → FewShut l g
+  pub few-shut : (l : List Held) (mask : ℕ) → Shut l g mask → FewShut l g
   few-shut l mask shut k h =
       rw (seated-ones l mask shut k h, given .sized) (ones-le (2 ^ ones (g .folding)) _ (mod-lt _ (pow-pos (2 ^ ones (g .folding)))))
 
-module _ {l : List ℕ} {g : Tree} (given : Grouped g) where
+module _ {l : List Held} {g : Tree} (given : Grouped g) where
   -- the level is empty exactly where the code's number is 0
   level-empty : {level many : ℕ} → Read l g level many → (mask : ℕ) → Shut l g mask → isEmptyLevel (g .n) mask (g .folding) level ≡ eqb many 0
   level-empty {level} {many} read mask shut =

@@ -12,12 +12,12 @@ use borrow.Author.Tests.{ltb-true, ltb-false}
 use Rattle.rules.specs.Word.{codeword, gather}
 use Rattle.rules.specs.Level.{nothing, best, levelCost, wordDistance, leastWord}
 use Rattle.rules.specs.Walk.{State, keepBest, walkVisits}
-use Rattle.rules.specs.Refusals.{refused, done, refuseAt}
+use Rattle.rules.specs.Refusals.{refused, done, refuseAt, largest}
 use Rattle.rules.specs.Answers as rules
 use Rattle.laws.specs.distance.Least.{leastWord-least}
 use Rattle.laws.specs.code.Matrix.{codeword-longer}
 use Rattle.laws.specs.code.Permitted.{permitted-lt}
-use Rattle.word.specs.Words.{sizeOf}
+use Rattle.word.specs.Words.{sizeOf, Held, wordOf}
 use Rattle.tree.specs.States.{keptOf, runningOf, stateOf}
 use Rattle.tree.specs.Empty.{firstEmpty}
 use Rattle.tree.specs.Search.{searchAnswer}
@@ -39,14 +39,14 @@ test-some false x y e = (refl, Option·some-injective y x e)
 -- a kept word that is there has the parts of the state, and a distance of 32 bits
 record Kept (s : Walked) (p d : ℕ) : Type 0 where
   distance : s .distance ≡ p
-  word : s .word ≡ d
+  word : wordOf (s .word) ≡ d
   small : s .distance < 2 ^ 32
 
 kept-parts : (s : Walked) (p d : ℕ) → keptOf s ≡ best p d → Kept s p d
 kept-parts s p d e = go (decLt (s .distance) (2 ^ 32))
   where
     go : Dec (s .distance < 2 ^ 32) → Kept s p d
-    go (yes h) = let q : best (s .distance) (s .word) ≡ best p d = sym (has-best s h) ∙ e in record { distance = cc; word = cc; small = h }
+    go (yes h) = let q : best (s .distance) (wordOf (s .word)) ≡ best p d = sym (has-best s h) ∙ e in record { distance = cc; word = cc; small = h }
     go (no h) =
         let q : nothing ≡ best p d = sym (no-best s (omega arith)) ∙ e in
         let z : _≡_ {A = ℕ} 0 1 = cc in absurd (omega arith)
@@ -85,16 +85,16 @@ module _ (n mask folding allowance : ℕ) (levels : List ℤ) (end : Walked) whe
     visits-fit h = omega (arith, h, ltb-false allowance (end .visits) on)
 
     -- the decoding's fields
-    pub found-right : n ≤ 6 → (message x : ℕ) → message ≡ gather (sizeOf n) mask (end .word) → x ≡ codeword 6 (end .word)
+    pub found-right : n ≤ largest → (message x : Held) → wordOf message ≡ gather (sizeOf n) mask (wordOf (end .word)) → wordOf x ≡ codeword largest (wordOf (end .word))
         → decodedOf (record { message = message; d = end .word; x = x; distance = end .distance; visits = end .visits }) ≡ rules.decoded n levels mask folding
     unfolding rules.decoded
     found-right small message x isMessage isCode =
         let own : sizeOf n ≡ n = omega arith in
         let d = leastWord n mask (levelCost levels) in
-        let m : message ≡ gather n mask d = isMessage ∙ ap (λ (k : ℕ). gather k mask (end .word)) own ∙ ap (gather n mask) (kept .word) in
-        let c : x ≡ codeword n d =
-        isCode ∙ ap (codeword 6) (kept .word)
-        ∙ codeword-longer n 6 d small (permitted-lt n mask d (leastWord-least n mask (levelCost levels) .allowed))
+        let m : wordOf message ≡ gather n mask d = isMessage ∙ ap (λ (k : ℕ). gather k mask (wordOf (end .word))) own ∙ ap (gather n mask) (kept .word) in
+        let c : wordOf x ≡ codeword n d =
+        isCode ∙ ap (codeword largest) (kept .word)
+        ∙ codeword-longer n largest d small (permitted-lt n mask d (leastWord-least n mask (levelCost levels) .allowed))
         in
         let v : end .visits ≡ walkVisits n mask (levelCost levels) folding = ap (λ (s : State keepBest). s .visits) (parts .1) in
         λ i. record { message = m i; d = kept .word i; x = c i; distance = kept .distance i; visits = v i }

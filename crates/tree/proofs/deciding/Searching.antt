@@ -17,6 +17,7 @@ use Rattle.rules.specs.Word.{bit, codeword}
 use Rattle.rules.specs.Level.{levelAt, levelCost, best, wordDistance, leastWord}
 use Rattle.rules.specs.Folding.{groups}
 use Rattle.rules.specs.Walk.{Candidate, keepBest, walkVisits}
+use Rattle.rules.specs.Refusals.{largest}
 use Rattle.laws.specs.numbers.Each.{each-length, each-at}
 use Rattle.laws.specs.numbers.Sums.{sum-cong, sum-add, sum-mul, sum-le, sum-const}
 use Rattle.laws.specs.distance.GreatestDistance.{slot-greatest}
@@ -28,6 +29,7 @@ use Rattle.laws.specs.seats.SeatedWalk.{seatedCandidates, seated-least-in}
 use Rattle.laws.specs.numbers.SortedLists.{mem-getD}
 use Rattle.laws.specs.rows.SortedRows.{rowOf, row-length, row-at, row-cong, entry-parts}
 use Rattle.laws.specs.walk.Allowance.{walkIn, walk-cong}
+use Rattle.word.specs.Words.{Held}
 use Rattle.tree.specs.Seating.{Seated}
 use Rattle.tree.specs.Grouping.{Grouped, Covered, Shut, Changes}
 use Rattle.rows.specs.Table.{entryAt, rowAt}
@@ -45,7 +47,7 @@ module _ {levels : List ℤ} {g : Tree} (grouped : Grouped g) (given : Searchabl
   pub levelled : Levelled levels index 0 (g .groups * g .size)
   levelled =
       record {
-        within = omega (arith, all-indices grouped, pow-mono {j = 6} (given .small));
+        within = omega (arith, all-indices grouped, pow-mono {j = largest} (given .small));
         held =
             λ t h. rw (zero-add t, index-at seated t (rw (all-indices grouped) at h), given .long) (seat-below (g .n) (g .folding) (given .fits) t (rw (all-indices grouped) at h));
         ranged =
@@ -107,7 +109,7 @@ module _ {levels : List ℤ} {g : Tree} (grouped : Grouped g) (given : Searchabl
             (given .ranged _ (seat-below (g .n) (g .folding) (given .fits) _ (rw (all-indices grouped) at (inside k t hk ht)))))
 
     -- what the walk asks of the tables
-    pub tables-right : (change : List ℕ) (mask : ℕ) → Changes change g → Covered (coveredIn tables) g → Shut (shutIn tables) g mask
+    pub tables-right : (change : List Held) (mask : ℕ) → Changes change g → Covered (coveredIn tables) g → Shut (shutIn tables) g mask
         → Tabled table change tables g
     tables-right change mask changes copied frozen =
         record {

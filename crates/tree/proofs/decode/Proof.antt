@@ -53,10 +53,10 @@ lent : (c : tie.Else2) → LentRight (sizeAt c) (levelsAt c)
 lent c = record { size = size c; long = c .if2 .left ∙ all-slots c }
 
 -- what is left to answer there
-left : (c : tie.Else2) → answerAt c
+after-slice : (c : tie.Else2) → answerAt c
     ≡ answer (foldedOrder (sizeAt c) (maskAt c) (foldingAt c) ++ walkOrder (sizeAt c) (levelsAt c) (maskAt c) (foldingAt c) (allowanceAt c)) (successAt c)
 unfolding decodeAnswer
-left c = after-lent _ _ _ _ _ (successAt c) (lent c)
+after-slice c = after-lent _ _ _ _ _ (successAt c) (lent c)
 
 -- and where the code and the folding are right
 abbrev back : tie.After-enum-told → tie.Else2
@@ -65,10 +65,10 @@ back c = c .before .before .before
 right : (c : tie.After-enum-told) → FoldedRight (sizeAt (back c)) (maskAt (back c)) (foldingAt (back c))
 right c = folded-right _ _ _ .0 (folded-passed _ _ _ (c .before .before .folded .ensures) (c .enum-told .given .1))
 
-walks : (c : tie.After-enum-told) → answerAt (back c)
+after-tests : (c : tie.After-enum-told) → answerAt (back c)
     ≡ answer (walkOrder (sizeAt (back c)) (levelsAt (back c)) (maskAt (back c)) (foldingAt (back c)) (allowanceAt (back c))) (successAt (back c))
 unfolding decodeAnswer
-walks c = after-folded _ _ _ _ _ (successAt (back c)) (lent (back c)) (right c)
+after-tests c = after-folded _ _ _ _ _ (successAt (back c)) (lent (back c)) (right c)
 
 wrong-size-requires : tie.Need-wrong-size-requires
 wrong-size-requires c κs = search needs
@@ -96,7 +96,7 @@ enum-known-verdict c = search needs
 
 returns-3 : tie.Need-returns-3
 returns-3 c =
-    folded-refused-first _ _ _ (c .before .before .before .folded .ensures) _ _ (c .before .verdict .given .1) ∙ sym (left (c .before .before .before .before))
+    folded-refused-first _ _ _ (c .before .before .before .folded .ensures) _ _ (c .before .verdict .given .1) ∙ sym (after-slice (c .before .before .before .before))
 
 enum-told : tie.Need-enum-told
 enum-told c = search needs
@@ -109,7 +109,7 @@ unfolding walkOrder
 returns-4 c =
     let s = back (c .before .before) in
     sym
-    (walks (c .before .before)
+    (after-tests (c .before .before)
     ∙ rw (ap (refuseAt 6) (range-wrong (levelsAt s) (2 ^ sizeAt s) _ (lent s .long) (c .before .first-out-of-range .ensures .0) (rw (all-slots s) at (c .if3 .taken)))))
 
 search-requires : tie.Need-search-requires
@@ -130,7 +130,7 @@ returns-5 c =
     let s = back (c .before .before .before) in
     c .search .ensures
     ∙ sym
-    (walks (c .before .before .before)
+    (after-tests (c .before .before .before)
     ∙ rw (ap (refuseAt 6) (range-right (levelsAt s) (2 ^ sizeAt s) _ (lent s .long) (c .before .before .first-out-of-range .ensures .0) (rw (all-slots s) at (c .before .if3 .left)))))
 
 pub decode-spec : {M : Type 1} → statement M

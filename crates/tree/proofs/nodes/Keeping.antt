@@ -8,11 +8,12 @@ use lib.Dec.{ltb}
 use borrow.Author.Tests.{lt-ltb, le-ltb, eq-eqb, ne-eqb}
 use Rattle.rules.specs.Level.{Best, nothing, best, keep}
 use Rattle.rules.specs.Walk.{isFarther}
+use Rattle.word.specs.Words.{wordOf}
 use Rattle.tree.specs.States.{keptOf}
 use Rattle.tree.specs.declared.state.Walked.{Walked}
 
 module _ (s : Walked) where
-  pub has-best : s .distance < 2 ^ 32 → keptOf s ≡ best (s .distance) (s .word)
+  pub has-best : s .distance < 2 ^ 32 → keptOf s ≡ best (s .distance) (wordOf (s .word))
   has-best h = rw (lt-ltb (s .distance) (2 ^ 32) h)
 
   pub no-best : 2 ^ 32 ≤ s .distance → keptOf s ≡ nothing
@@ -37,10 +38,10 @@ module _ (s : Walked) where
         go (no h) = ap (keep p d) (sym (no-best (omega arith)))
 
     -- of words equally near the smaller is kept
-    pub keep-smaller : p ≡ s .distance → ltb d (s .word) ≡ true → best p d ≡ keep p d (keptOf s)
+    pub keep-smaller : p ≡ s .distance → ltb d (wordOf (s .word)) ≡ true → best p d ≡ keep p d (keptOf s)
     keep-smaller same less = rw (has-best (omega (arith, small)), le-ltb p (s .distance) (omega arith), eq-eqb p (s .distance) same, less)
 
-    pub keep-former : p ≡ s .distance → ltb d (s .word) ≡ false → keptOf s ≡ keep p d (keptOf s)
+    pub keep-former : p ≡ s .distance → ltb d (wordOf (s .word)) ≡ false → keptOf s ≡ keep p d (keptOf s)
     keep-former same less = rw (has-best (omega (arith, small)), le-ltb p (s .distance) (omega arith), eq-eqb p (s .distance) same, less)
 
     -- a farther word is not kept

@@ -11,12 +11,14 @@ use lib.ListN.{getD}
 use lib.Pow.{pow-pos, pow-mono}
 use Rattle.rules.specs.Word.{codeword}
 use Rattle.rules.specs.Folding as rules
+use Rattle.rules.specs.Refusals.{largest}
 use Rattle.laws.specs.code.Matrix.{codeword-lt}
 use Rattle.laws.specs.seats.SeatWords.{seat}
 use Rattle.laws.specs.seats.SeatedRow.{blockOf, fillingOf, isOpen, branchOf, entryCandidate}
 use Rattle.laws.specs.seats.Decided.{decided, changeOf, Filled, filled}
 use Rattle.laws.specs.seats.Copied.{change-copied}
 use Rattle.rows.specs.Table.{entryAt}
+use Rattle.word.specs.Words.{Held, wordAt}
 use Rattle.tree.specs.Nodes.{Inside}
 use Rattle.tree.specs.Grouping.{GroupSize}
 use Rattle.tree.specs.Grouping.{Grouped}
@@ -27,11 +29,11 @@ use Rattle.tree.proofs.nodes.RowRest.{rest}
 use Rattle.tree.proofs.tables.GroupSizes.{by-size}
 use Rattle.tree.proofs.tables.Tabling.{shape, size-small, all-indices, few-groups as at-most, frozen-block}
 
--- the row of a group among 64 slots is in the table
-in-table : {size : ℕ} (k : ℕ) → GroupSize size → suc k * size ≤ 64 → k * 2 ^ size < 2048
-in-table k = by-size (λ (size : ℕ). suc k * size ≤ 64 → k * 2 ^ size < 2048) (λ h. omega arith) (λ h. omega arith) (λ h. omega arith) (λ h. omega arith)
+-- the row of a group among the slots of the largest block is in the table
+in-table : {size : ℕ} (k : ℕ) → GroupSize size → suc k * size ≤ 2 ^ largest → k * 2 ^ size < 2048
+in-table k = by-size (λ (size : ℕ). suc k * size ≤ 2 ^ largest → k * 2 ^ size < 2048) (λ h. omega arith) (λ h. omega arith) (λ h. omega arith) (λ h. omega arith)
 
-module _ {rows : List (List ℕ)} {change : List ℕ} {tables : List (List ℕ)} {g : Tree} {k partial w : ℕ} {s : Walked}
+module _ {rows : List (List ℕ)} {change : List Held} {tables : List (List ℕ)} {g : Tree} {k partial w : ℕ} {s : Walked}
     (given : Given rows change tables g (suc k) partial w s) where
   grouped : Grouped g
   grouped = given .tabled .grouped
@@ -46,17 +48,17 @@ module _ {rows : List (List ℕ)} {change : List ℕ} {tables : List (List ℕ)}
   group-is : k < rules.groups (g .n) (g .folding)
   group-is = rw (← grouped .all) (given .begun .within)
 
-  -- and its indices are among 64
-  seats-fit : suc k * g .size ≤ 64
+  -- and its indices are among those of the largest block
+  seats-fit : suc k * g .size ≤ 2 ^ largest
   seats-fit =
       omega (
         arith,
         mul-le-mul-right {m = suc k} {n = g .groups} (g .size) (given .begun .within),
         all-indices grouped,
-        pow-mono {j = 6} (grouped .small),
+        pow-mono {j = largest} (grouped .small),
       )
 
-  pub few-groups : k < 64
+  pub few-groups : k < 2 ^ largest
   few-groups = omega (arith, given .begun .within, at-most grouped)
 
   -- every entry of the group's row is in the table
@@ -71,7 +73,7 @@ module _ {rows : List (List ℕ)} {change : List ℕ} {tables : List (List ℕ)}
   nearer = getD (nearIn tables) k 0
 
   abbrev pub closed : ℕ
-  closed = blockOf (g .size) k (seat (g .n) (g .folding) (getD (shutIn tables) k 0))
+  closed = blockOf (g .size) k (seat (g .n) (g .folding) (wordAt (shutIn tables) k))
 
   -- the cost of the nearer bits leaves room
   pub near-fits : partial + nearer < 2 ^ 32
@@ -92,17 +94,17 @@ module _ {rows : List (List ℕ)} {change : List ℕ} {tables : List (List ℕ)}
     pattern-lt = given .tabled .narrow k j (given .begun .within) h
 
     -- what the code adds to the word is what the pattern changes in it
-    change-is : getD (coveredIn tables) k 0 * getD change (e % 256) 0 ≡ changeOf (g .n) (g .folding) k (e % 256)
+    change-is : wordAt (coveredIn tables) k * wordAt change (e % 256) ≡ changeOf (g .n) (g .folding) k (e % 256)
     change-is =
         ap₂ (λ (a b : ℕ). a * b) (given .tabled .copied k (given .begun .within)) (given .tabled .changes (e % 256) pattern-lt)
         ∙ mul-comm _ _ ∙ change-copied (g .n) (g .folding) (grouped .fits) k (e % 256) group-is (rw (← sized) pattern-lt)
 
-    pub change-fits : getD (coveredIn tables) k 0 * getD change (e % 256) 0 < 2 ^ 64
-    change-fits = rw change-is (lt-of-lt-of-le (codeword-lt (g .n) _) (pow-mono (pow-mono {j = 6} (grouped .small))))
+    pub change-fits : wordAt (coveredIn tables) k * wordAt change (e % 256) < 2 ^ (2 ^ largest)
+    change-fits = rw change-is (lt-of-lt-of-le (codeword-lt (g .n) _) (pow-mono (pow-mono {j = largest} (grouped .small))))
 
     -- the next word
     abbrev pub next : ℕ
-    next = bitXor w (getD (coveredIn tables) k 0 * getD change (e % 256) 0)
+    next = bitXor w (wordAt (coveredIn tables) k * wordAt change (e % 256))
 
     down : Filled (g .n) (given .tabled .frozen .0) (g .folding) k w e next
     down =
@@ -111,7 +113,7 @@ module _ {rows : List (List ℕ)} {change : List ℕ} {tables : List (List ℕ)}
         (given .begun .blank) (rw (← sized) pattern-lt))
 
     -- it has no frozen bit of the group exactly where the entry's filling has none
-    pub open-is : eqb (bitAnd next (getD (shutIn tables) k 0)) 0 ≡ isOpen closed forced e
+    pub open-is : eqb (bitAnd next (wordAt (shutIn tables) k)) 0 ≡ isOpen closed forced e
     open-is =
         let own = rw (← sized) at (given .tabled .frozen .1 k (given .begun .within)) in
         let block = frozen-block grouped (shutIn tables) (given .tabled .frozen .0) (given .tabled .frozen .1) k (given .begun .within) in

@@ -8,7 +8,6 @@ use native.Mathlib.Numerals.{add-one}
 use native.Mathlib.Omega.{arith}
 use lib.Bits.{bitAnd, bitXor}
 use lib.Dec.{eqb}
-use lib.ListN.{getD}
 use borrow.Author.Tests.{lt-ltb, le-ltb}
 use Rattle.rules.specs.Level.{keep}
 use Rattle.rules.specs.Walk.{Candidate, State, keepBest, count, isFarther}
@@ -17,6 +16,7 @@ use Rattle.laws.specs.seats.SeatedRow.{isOpen, entryCandidate}
 use Rattle.laws.specs.seats.Decided.{decided, decided-all}
 use Rattle.laws.specs.numbers.Bits.{power-shifted}
 use Rattle.rows.specs.Table.{entryAt}
+use Rattle.word.specs.Words.{Held, wordAt}
 use Rattle.tree.specs.States.{keptOf, runningOf, stateOf}
 use Rattle.tree.specs.Nodes.{Given, rowCandidates, coveredIn, shutIn}
 use Rattle.tree.specs.declared.group.Tree.{Tree}
@@ -39,8 +39,8 @@ once-counted : (allowance : ℕ) (s : Walked) → s .visits + 1 ≤ allowance �
 once-counted allowance s h = running-state allowance (once s) h ∙ rw (add-one (s .visits))
 
 -- the word decided so far, with so many levels left
-abbrev pub wordAt : Tree → ℕ → ℕ → ℕ
-wordAt g left w = decided (g .n) (g .folding) left w
+abbrev pub decidedAt : Tree → ℕ → ℕ → ℕ
+decidedAt g left w = decided (g .n) (g .folding) left w
 
 -- the rules' walk of the levels that are left
 abbrev pub under : List (List ℕ) → List (List ℕ) → Tree → ℕ → ℕ → ℕ → Option (State keepBest) → Option (State keepBest)
@@ -48,14 +48,14 @@ under rows tables g = walkIn keepBest (g .allowance) (rowCandidates rows tables 
 
 -- what the rules do with the whole node
 abbrev pub wholly : List (List ℕ) → List (List ℕ) → Tree → ℕ → ℕ → ℕ → Option (State keepBest) → Option (State keepBest)
-wholly rows tables g left partial w = under rows tables g left partial (wordAt g left w)
+wholly rows tables g left partial w = under rows tables g left partial (decidedAt g left w)
 
 -- what they do with candidates of group k, at a state
 abbrev pub trial : List (List ℕ) → List (List ℕ) → Tree → ℕ → ℕ → ℕ → List Candidate → Option (State keepBest) → Option (State keepBest)
-trial rows tables g k partial w = visitIn keepBest (g .allowance) (under rows tables g k) partial (wordAt g (suc k) w)
+trial rows tables g k partial w = visitIn keepBest (g .allowance) (under rows tables g k) partial (decidedAt g (suc k) w)
 
 -- the loop's invariant
-pub record Trying (rows : List (List ℕ)) (change : List ℕ) (tables : List (List ℕ)) (g : Tree) (left partial w k size entries base : ℕ)
+pub record Trying (rows : List (List ℕ)) (change : List Held) (tables : List (List ℕ)) (g : Tree) (left partial w k size entries base : ℕ)
     (first s : Walked) (j : ℕ) : Type 0 where
   pub given : Given rows change tables g (suc k) partial w first
   pub levels : left ≡ suc k
@@ -67,7 +67,7 @@ pub record Trying (rows : List (List ℕ)) (change : List ℕ) (tables : List (L
   pub same : trial rows tables g k partial w (rest rows (g .n) (g .folding) (g .size) k (nearer given) (forced given) (closed given) j) (stateOf (g .allowance) s)
       ≡ wholly rows tables g left partial w (stateOf (g .allowance) first)
 
-module _ {rows : List (List ℕ)} {change : List ℕ} {tables : List (List ℕ)} {g : Tree} {left partial w k size entries base : ℕ} {first s : Walked} {j : ℕ}
+module _ {rows : List (List ℕ)} {change : List Held} {tables : List (List ℕ)} {g : Tree} {left partial w k size entries base : ℕ} {first s : Walked} {j : ℕ}
     (t : Trying rows change tables g left partial w k size entries base first s j) where
   -- the node's whole result
   abbrev whole : Option (State keepBest)
@@ -80,7 +80,7 @@ module _ {rows : List (List ℕ)} {change : List ℕ} {tables : List (List ℕ)}
   -- the row is at its end
   pub trying-end : entries ≤ j → stateOf (g .allowance) s ≡ whole
   trying-end h =
-      sym (visit-end keepBest (g .allowance) (under rows tables g k) partial (wordAt g (suc k) w) (stateOf (g .allowance) s))
+      sym (visit-end keepBest (g .allowance) (under rows tables g k) partial (decidedAt g (suc k) w) (stateOf (g .allowance) s))
       ∙ ap (λ (cs : List Candidate). trial rows tables g k partial w cs (stateOf (g .allowance) s)) (sym (rest-end rows _ _ _ k _ _ _ j (rw (← t .counted) h)))
       ∙ t .same
 
@@ -96,17 +96,17 @@ module _ {rows : List (List ℕ)} {change : List ℕ} {tables : List (List ℕ)}
       pub total-is : base + 1024 * (e / 256) ≡ reached (t .given) j below
       total-is = rw entry-is (omega (arith, t .based))
 
-      pub product-is : getD (coveredIn tables) k 0 * getD change (e % 256) 0 ≡ getD (coveredIn tables) k 0 * getD change (entryAt rows (g .size) k j % 256) 0
-      product-is = ap (λ (a : ℕ). getD (coveredIn tables) k 0 * getD change (a % 256) 0) entry-is
+      pub product-is : wordAt (coveredIn tables) k * wordAt change (e % 256) ≡ wordAt (coveredIn tables) k * wordAt change (entryAt rows (g .size) k j % 256)
+      product-is = ap (λ (a : ℕ). wordAt (coveredIn tables) k * wordAt change (a % 256)) entry-is
 
-      module _ (after : ℕ) (changed : after ≡ bitXor w (getD (coveredIn tables) k 0 * getD change (e % 256) 0)) where
+      module _ (after : ℕ) (changed : after ≡ bitXor w (wordAt (coveredIn tables) k * wordAt change (e % 256))) where
         -- the next word as the code made it
         pub next-is : after ≡ next (t .given) j below
         next-is = changed ∙ ap (bitXor w) product-is
 
-        module _ (r : Bool) (test : r ≡ eqb (bitAnd after (getD (shutIn tables) k 0)) 0) where
+        module _ (r : Bool) (test : r ≡ eqb (bitAnd after (wordAt (shutIn tables) k)) 0) where
           open-right : isOpen (closed (t .given)) (forced (t .given)) (entryAt rows (g .size) k j) ≡ r
-          open-right = sym (test ∙ ap (λ (a : ℕ). eqb (bitAnd a (getD (shutIn tables) k 0)) 0) next-is ∙ open-is (t .given) j below)
+          open-right = sym (test ∙ ap (λ (a : ℕ). eqb (bitAnd a (wordAt (shutIn tables) k)) 0) next-is ∙ open-is (t .given) j below)
 
           -- a word with a frozen bit: on to the next entry
           pub trying-shut : r ≡ false → Trying rows change tables g left partial w k size entries base first s (j + 1)
@@ -136,7 +136,7 @@ module _ {rows : List (List ℕ)} {change : List ℕ} {tables : List (List ℕ)}
             pub trying-out : (g .allowance) < s .visits + 1 → stateOf (g .allowance) (once s) ≡ whole
             trying-out out =
                 ended-state (g .allowance) (once s) out
-                ∙ sym (visit-out keepBest (g .allowance) (under rows tables g k) partial (wordAt g (suc k) w) _ _ (runningOf s) (omega (arith, out))) ∙ opened
+                ∙ sym (visit-out keepBest (g .allowance) (under rows tables g k) partial (decidedAt g (suc k) w) _ _ (runningOf s) (omega (arith, out))) ∙ opened
 
             module _ (within : s .visits + 1 ≤ (g .allowance)) (total : ℕ) (summed : total ≡ base + 1024 * (e / 256)) where
               allowed : s .visits < (g .allowance)
@@ -150,7 +150,7 @@ module _ {rows : List (List ℕ)} {change : List ℕ} {tables : List (List ℕ)}
               pub trying-cut : isFarther (keptOf s) total ≡ true → stateOf (g .allowance) (once s) ≡ whole
               trying-cut far =
                   once-counted (g .allowance) s within
-                  ∙ sym (visit-cut keepBest (g .allowance) (under rows tables g k) partial (wordAt g (suc k) w) _ _ (runningOf s) allowed (rw (← total-right) far))
+                  ∙ sym (visit-cut keepBest (g .allowance) (under rows tables g k) partial (decidedAt g (suc k) w) _ _ (runningOf s) allowed (rw (← total-right) far))
                   ∙ opened
 
               -- the walk went down one level and came back
@@ -159,15 +159,15 @@ module _ {rows : List (List ℕ)} {change : List ℕ} {tables : List (List ℕ)}
                 onwards : trial rows tables g k partial w (remaining (j + 1)) (stateOf (g .allowance) back) ≡ whole
                 onwards =
                     ap (trial rows tables g k partial w (remaining (j + 1)))
-                    (came ∙ ap₂ (λ (p : ℕ) (o : Option (State keepBest)). under rows tables g k p (wordAt g k after) o) total-right (once-counted (g .allowance) s within)
-                    ∙ ap (λ (d : ℕ). under rows tables g k (partial + here-is .branch) d (some (count (runningOf s)))) (ap (wordAt g k) next-is ∙ fills (t .given) j below))
-                    ∙ sym (visit-down keepBest (g .allowance) (under rows tables g k) partial (wordAt g (suc k) w) _ _ (runningOf s) allowed (rw (← total-right) near))
+                    (came ∙ ap₂ (λ (p : ℕ) (o : Option (State keepBest)). under rows tables g k p (decidedAt g k after) o) total-right (once-counted (g .allowance) s within)
+                    ∙ ap (λ (d : ℕ). under rows tables g k (partial + here-is .branch) d (some (count (runningOf s)))) (ap (decidedAt g k) next-is ∙ fills (t .given) j below))
+                    ∙ sym (visit-down keepBest (g .allowance) (under rows tables g k) partial (decidedAt g (suc k) w) _ _ (runningOf s) allowed (rw (← total-right) near))
                     ∙ opened
 
                 -- the allowance was used up below
                 pub trying-stopped : (g .allowance) < back .visits → stateOf (g .allowance) back ≡ whole
                 trying-stopped off =
-                    ended-state (g .allowance) back off ∙ sym (visit-stopped keepBest (g .allowance) (under rows tables g k) partial (wordAt g (suc k) w) (remaining (j + 1)))
+                    ended-state (g .allowance) back off ∙ sym (visit-stopped keepBest (g .allowance) (under rows tables g k) partial (decidedAt g (suc k) w) (remaining (j + 1)))
                     ∙ ap (trial rows tables g k partial w (remaining (j + 1))) (sym (ended-state (g .allowance) back off)) ∙ onwards
 
                 -- on to the next entry
@@ -185,18 +185,18 @@ module _ {rows : List (List ℕ)} {change : List ℕ} {tables : List (List ℕ)}
                     }
 
 -- a node with no level left keeps the word or not
-pub at-leaf : {rows : List (List ℕ)} {change : List ℕ} {tables : List (List ℕ)} {g : Tree} {left partial w : ℕ} {s : Walked}
+pub at-leaf : {rows : List (List ℕ)} {change : List Held} {tables : List (List ℕ)} {g : Tree} {left partial w : ℕ} {s : Walked}
     → Given rows change tables g left partial w s → left ≡ 0 → (back : Walked)
     → (keptOf back ≡ keep partial w (keptOf s)) × (back .visits ≡ s .visits)
     → stateOf (g .allowance) back ≡ wholly rows tables g left partial w (stateOf (g .allowance) s)
 at-leaf {rows} {tables = tables} {g = g} {left} {partial} {w} {s} given none-left back kept =
-    let own : wordAt g 0 w ≡ w = decided-all (g .n) (g .folding) (given .tabled .grouped .fits) w (given .begun .small) in
+    let own : decidedAt g 0 w ≡ w = decided-all (g .n) (g .folding) (given .tabled .grouped .fits) w (given .begun .small) in
     running-state (g .allowance) back (rw (kept .1) (given .running))
     ∙ (λ i. some (record { kept = (kept .0 ∙ ap (λ (v : ℕ). keep partial v (keptOf s)) (sym own)) i; visits = kept .1 i }))
-    ∙ sym (walk-last keepBest (g .allowance) (rowCandidates rows tables g) partial (wordAt g 0 w) (runningOf s))
+    ∙ sym (walk-last keepBest (g .allowance) (rowCandidates rows tables g) partial (decidedAt g 0 w) (runningOf s))
     ∙ ap₂ (λ (l : ℕ) (o : Option (State keepBest)). wholly rows tables g l partial w o) (sym none-left) (sym (running-state (g .allowance) s (given .running)))
 
-module _ {rows : List (List ℕ)} {change : List ℕ} {tables : List (List ℕ)} {g : Tree} {left partial w : ℕ} {s : Walked}
+module _ {rows : List (List ℕ)} {change : List Held} {tables : List (List ℕ)} {g : Tree} {left partial w : ℕ} {s : Walked}
     (given : Given rows change tables g left partial w s) (some-left : left ≡ 0 → ⊥) where
   levels-left : left ≡ suc (left - 1)
   levels-left = omega arith
@@ -218,6 +218,6 @@ module _ {rows : List (List ℕ)} {change : List ℕ} {tables : List (List ℕ)}
         running = given .running;
         same =
             ap (λ (cs : List Candidate). trial rows tables g (left - 1) partial w cs (stateOf (g .allowance) s)) (sym (here given-next))
-            ∙ sym (walk-node keepBest (g .allowance) (rowCandidates rows tables g) (left - 1) partial (wordAt g (suc (left - 1)) w) (stateOf (g .allowance) s))
+            ∙ sym (walk-node keepBest (g .allowance) (rowCandidates rows tables g) (left - 1) partial (decidedAt g (suc (left - 1)) w) (stateOf (g .allowance) s))
             ∙ ap (λ (l : ℕ). wholly rows tables g l partial w (stateOf (g .allowance) s)) (sym levels-left);
       }

@@ -1,5 +1,5 @@
 -- `tree::search` meets its contract: the steps make what the walk asks, and the walk's end decides the answer.
-use Prim.Native.Nat.{ℕ}
+use Prim.Native.Nat.{ℕ, _^_}
 use mathlib.Core.Path.{_≡_, sym, _∙_}
 use mathlib.Core.Bool.{false}
 use mathlib.Core.Option.{none, some}
@@ -7,6 +7,8 @@ use native.Mathlib.Omega.{arith}
 use lib.Dec.{ltb}
 use lib.ListN.{length-replicate}
 use borrow.Author.Needs.{needs}
+use Rattle.rules.specs.Refusals.{largest}
+use Rattle.word.specs.Words.{wordOf}
 use Rattle.tree.specs.Seating.{Seated}
 use Rattle.tree.specs.Grouping.{Grouped}
 use Rattle.tree.specs.Empty.{firstEmpty}
@@ -56,13 +58,13 @@ shut-requires c κs = (grouped (c .before), seated (c .before))
 first-empty-requires : tie.Need-first-empty-requires
 first-empty-requires c κs =
     let seats = c .before .before .before in
-    (grouped seats, few-shut (grouped seats) (c .before .shut .result) (seats .before .before .args .frozen) (c .before .shut .ensures))
+    (grouped seats, few-shut (grouped seats) (c .before .shut .result) (wordOf (seats .before .before .args .frozen)) (c .before .shut .ensures))
 
 returns : tie.Need-returns
 returns c =
     let seats = c .before .before .before .before .before .before in
     let first = c .before .before .first-empty .ensures _ (c .before .before .before .before .shut .ensures) in
-    answer-seven _ _ _ _ _ _ (onto (λ n folding. firstEmpty n (seats .before .before .args .frozen) folding ≡ some (c .before .before .first-empty .result)) (same-n seats) (same-folding seats) (first .named (c .if1 .taken)))
+    answer-seven _ _ _ _ _ _ (onto (λ n folding. firstEmpty n (wordOf (seats .before .before .args .frozen)) folding ≡ some (c .before .before .first-empty .result)) (same-n seats) (same-folding seats) (first .named (c .if1 .taken)))
 
 index-1-rows : tie.Need-index-1-rows
 index-1-rows c = search needs
@@ -70,7 +72,7 @@ index-1-rows c = search needs
 rows-requires : tie.Need-rows-requires
 rows-requires c κs =
     let seats = c .before .before .before .before .before .before .before .before in
-    (grouped seats, levelled (grouped seats) (given seats) (seated seats), length-replicate {A = ℕ} 64 0)
+    (grouped seats, levelled (grouped seats) (given seats) (seated seats), length-replicate {A = ℕ} (2 ^ largest) 0)
 
 changes-requires : tie.Need-changes-requires
 changes-requires c κs = let seats = c .before .before .before .before .before .before .before .before .before .before in (grouped seats, seated seats)
@@ -103,19 +105,19 @@ shutting c = c .before .before .before .before .before .before .before .before .
 abbrev begun : tie.After-walk → tie.Start
 begun c = shutting c .before .before .before .before
 
-candidates : (c : tie.After-walk) → firstEmpty (begun c .args .n) (begun c .args .frozen) (begun c .args .folding) ≡ none
+candidates : (c : tie.After-walk) → firstEmpty (begun c .args .n) (wordOf (begun c .args .frozen)) (begun c .args .folding) ≡ none
 candidates c =
     let seats = shutting c .before .before in
     let first = c .before .before .before .before .before .before .before .before .before .before .before .before .before .first-empty .ensures _ (shutting c .shut .ensures) in
-    onto (λ n folding. firstEmpty n (begun c .args .frozen) folding ≡ none) (same-n seats) (same-folding seats) (first .absent (omega (arith, first .inside, c .before .before .before .before .before .before .before .before .before .before .before .if1 .left)))
+    onto (λ n folding. firstEmpty n (wordOf (begun c .args .frozen)) folding ≡ none) (same-n seats) (same-folding seats) (first .absent (omega (arith, first .inside, c .before .before .before .before .before .before .before .before .before .before .before .if1 .left)))
 
 ends : (c : tie.After-walk)
-    → Ends (begun c .args .n) (begun c .args .frozen) (begun c .args .folding) (begun c .args .allowance) (begun c .args .levels .now) (c .walk .result)
+    → Ends (begun c .args .n) (wordOf (begun c .args .frozen)) (begun c .args .folding) (begun c .args .allowance) (begun c .args .levels .now) (c .walk .result)
 ends c =
     let seats = shutting c .before .before in
     let rows = c .before .before .before .before .before .before .before .before .rows .ensures in
-    onto (λ n allowance. Ends n (begun c .args .frozen) (begun c .args .folding) allowance (begun c .args .levels .now) (c .walk .result)) (same-n seats) (same-allowance seats)
-    (onto (λ folding _. Ends (tree seats .n) (begun c .args .frozen) folding (tree seats .allowance) (begun c .args .levels .now) (c .walk .result)) (same-folding seats) (same-n seats)
+    onto (λ n allowance. Ends n (wordOf (begun c .args .frozen)) (begun c .args .folding) allowance (begun c .args .levels .now) (c .walk .result)) (same-n seats) (same-allowance seats)
+    (onto (λ folding _. Ends (tree seats .n) (wordOf (begun c .args .frozen)) folding (tree seats .allowance) (begun c .args .levels .now) (c .walk .result)) (same-folding seats) (same-n seats)
     (c .walk .ensures ∙ walked (grouped seats) (given seats) (seated seats) _ _ rows _ _ (shutting c .shut .ensures)))
 
 returns-2 : tie.Need-returns-2
@@ -123,7 +125,7 @@ returns-2 c =
     let w = c .before .before in
     let given = begun w .args in
     answer-eight _ _ _ _ _ (candidates w)
-    (used-up (given .n) (given .frozen) (given .folding) (given .allowance) (given .levels .now) (w .walk .result) (ends w) (sym (c .before .used-up .ensures) ∙ c .if2 .taken))
+    (used-up (given .n) (wordOf (given .frozen)) (given .folding) (given .allowance) (given .levels .now) (w .walk .result) (ends w) (sym (c .before .used-up .ensures) ∙ c .if2 .taken))
 
 -- a walk within its allowance
 within : (c : tie.Else2) → ltb (begun (c .before .before) .args .allowance) (c .before .before .walk .result .visits) ≡ false
@@ -134,7 +136,7 @@ cast-distance c =
     let w = c .before .before .before in
     let given = begun w .args in
     let fits =
-    distance-fits (given .n) (given .frozen) (given .folding) (given .allowance) (given .levels .now) (w .walk .result) (ends w) (within (c .before))
+    distance-fits (given .n) (wordOf (given .frozen)) (given .folding) (given .allowance) (given .levels .now) (w .walk .result) (ends w) (within (c .before))
     in
     omega (arith, fits)
 
@@ -143,7 +145,7 @@ cast-visits c =
     let w = c .before .before .before .before in
     let given = begun w .args in
     let fits =
-    visits-fit (given .n) (given .frozen) (given .folding) (given .allowance) (given .levels .now) (w .walk .result) (ends w)
+    visits-fit (given .n) (wordOf (given .frozen)) (given .folding) (given .allowance) (given .levels .now) (w .walk .result) (ends w)
     (within (c .before .before)) (begun w .fits .allowance .fits)
     in
     omega (arith, fits)
@@ -160,8 +162,8 @@ returns-3 c =
     let given = begun w .args in
     let on = within (c .before .before .before .before) in
     answer-found _ _ _ _ _ (candidates w)
-    (enough (given .n) (given .frozen) (given .folding) (given .allowance) (given .levels .now) (w .walk .result) (ends w) on) _
-    (found-right (given .n) (given .frozen) (given .folding) (given .allowance) (given .levels .now) (w .walk .result) (ends w) on (begun w .pre .small)
+    (enough (given .n) (wordOf (given .frozen)) (given .folding) (given .allowance) (given .levels .now) (w .walk .result) (ends w) on) _
+    (found-right (given .n) (wordOf (given .frozen)) (given .folding) (given .allowance) (given .levels .now) (w .walk .result) (ends w) on (begun w .pre .small)
     _ _ (c .before .gather .ensures) (c .map .ensures))
 
 pub search-spec : {M : Type 1} → statement M

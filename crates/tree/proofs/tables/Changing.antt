@@ -2,7 +2,7 @@
 use Prim.Native.Nat.{ℕ, suc, _+_, _*_, _%_, _^_, _≤_, _<_}
 use mathlib.Core.Path.{_≡_, sym, ap, _∙_}
 use mathlib.Core.List.{List}
-use native.Mathlib.Nat.{zero-mul, two-pow-succ}
+use native.Mathlib.Nat.{zero-mul, two-pow-succ, mod-eq-of-lt}
 use native.Mathlib.Numerals.{add-one}
 use native.Mathlib.Omega.{arith}
 use lib.Bits.{bitXor}
@@ -10,32 +10,35 @@ use lib.Count.{ones}
 use lib.ListN.{length, getD}
 use lib.Pow.{pow-lt, pow-mono}
 use Rattle.rules.specs.Word.{codeword}
+use Rattle.rules.specs.Refusals.{largest}
 use Rattle.laws.specs.numbers.Bits.{power-shifted}
 use Rattle.laws.specs.code.Matrix.{codeword-zero, codeword-longer}
 use Rattle.laws.specs.seats.Seats.{seatIndex, seat-below}
 use Rattle.laws.specs.seats.SeatWords.{unseat-zero}
 use Rattle.laws.specs.seats.Decided.{changeOf}
 use Rattle.laws.specs.seats.Copied.{change-more}
+use Rattle.word.specs.Words.{Held, wordOf, wordAt}
 use Rattle.tree.specs.declared.group.Tree.{Tree}
-use Rattle.tree.specs.Grouping.{Grouped, Doubled}
+use Rattle.tree.specs.declared.group.Step.the-variants.{Column}
+use Rattle.tree.specs.Grouping.{Grouped, Doubled, stepOf}
 use Rattle.tree.specs.Seating.{Seated}
 use Rattle.tree.proofs.tables.SeatLoops.{index-at, index-fits}
 use Rattle.tree.proofs.tables.Tabling.{size-small, seat-within}
 use Rattle.tree.proofs.tables.WordsDoubled.{Begins, begins-doubled}
 
 -- the changes of the patterns below 2 ^ t
-pub record Changed (g : Tree) (l : List ℕ) (t : ℕ) : Type 0 where
+pub record Changed (g : Tree) (l : List Held) (t : ℕ) : Type 0 where
   pub long : length l ≡ 256
   pub done : Begins l (changeOf (g .n) (g .folding) 0) (2 ^ t)
 
 -- pattern 0 changes nothing
-pub changed-first : (g : Tree) (l : List ℕ) → length l ≡ 256 → getD l 0 0 ≡ 0 → Changed g l 0
+pub changed-first : (g : Tree) (l : List Held) → length l ≡ 256 → wordAt l 0 ≡ 0 → Changed g l 0
 changed-first g l long first = record { long = long; done = λ u h. go u (omega arith) }
   where
-    go : (u : ℕ) → u ≡ 0 → getD l u 0 ≡ changeOf (g .n) (g .folding) 0 u
+    go : (u : ℕ) → u ≡ 0 → wordAt l u ≡ changeOf (g .n) (g .folding) 0 u
     go u e = rw (e, zero-mul (2 ^ (0 * 2 ^ ones (g .folding))), unseat-zero (g .n) (g .folding), codeword-zero (g .n)) first
 
-module _ {g : Tree} (given : Grouped g) {l : List ℕ} {t : ℕ} (changed : Changed g l t) (h : t < g .size) where
+module _ {g : Tree} (given : Grouped g) {l : List Held} {t : ℕ} (changed : Changed g l t) (h : t < g .size) where
   -- how many patterns there are so far, as the machine shifts it
   many-is : 1 * 2 ^ t % 2 ^ 64 ≡ 2 ^ t
   many-is = power-shifted 64 t (omega (arith, h, size-small given))
@@ -45,11 +48,11 @@ module _ {g : Tree} (given : Grouped g) {l : List ℕ} {t : ℕ} (changed : Chan
   room-for-more = rw (many-is, changed .long) (omega (arith, two-pow-succ t, pow-mono {i = suc t} {j = 8} (omega (arith, h, size-small given))))
 
   -- one slot more doubles the patterns
-  pub changed-next : {after : List ℕ} {column : ℕ} → length after ≡ length l → column ≡ codeword (g .n) (2 ^ seatIndex (g .n) (g .folding) t)
-      → Doubled l after (1 * 2 ^ t % 2 ^ 64) (λ w. bitXor w column) → Changed g after (t + 1)
-  changed-next {after = after} {column = column} same is made = record { long = same ∙ changed .long; done = rw twice done }
+  pub changed-next : {after : List Held} (column : Held) → length after ≡ length l → wordOf column ≡ codeword (g .n) (2 ^ seatIndex (g .n) (g .folding) t)
+      → Doubled l after (1 * 2 ^ t % 2 ^ 64) (stepOf (Column column)) → Changed g after (t + 1)
+  changed-next {after = after} column same is made = record { long = same ∙ changed .long; done = rw twice done }
     where
-      doubled : Doubled l after (2 ^ t) (λ w. bitXor w column)
+      doubled : Doubled l after (2 ^ t) (stepOf (Column column))
       doubled = rw many-is at made
 
       done : Begins after (changeOf (g .n) (g .folding) 0) (2 ^ t + 2 ^ t)
@@ -63,7 +66,7 @@ module _ {g : Tree} (given : Grouped g) {l : List ℕ} {t : ℕ} (changed : Chan
 
 -- the codeword of an index of group 0, as the code makes it
 pub column-is : {g : Tree} → Grouped g → {l : List ℕ} → Seated l (g .n) (g .folding) → {t : ℕ} → t < g .size
-    → codeword 6 (1 * 2 ^ getD l t 0 % 2 ^ 64) ≡ codeword (g .n) (2 ^ seatIndex (g .n) (g .folding) t)
+    → codeword largest (2 ^ getD l t 0 % 2 ^ (2 ^ largest)) ≡ codeword (g .n) (2 ^ seatIndex (g .n) (g .folding) t)
 column-is {g = g} given {l = l} seated {t = t} h =
-    rw (power-shifted 64 (getD l t 0) (index-fits seated (seat-within given h)), index-at seated t (seat-within given h))
-    (codeword-longer (g .n) 6 _ (given .small) (pow-lt (seat-below (g .n) (g .folding) (given .fits) t (seat-within given h))))
+    rw (mod-eq-of-lt (pow-lt (index-fits seated (seat-within given h))), index-at seated t (seat-within given h))
+    (codeword-longer (g .n) largest _ (given .small) (pow-lt (seat-below (g .n) (g .folding) (given .fits) t (seat-within given h))))

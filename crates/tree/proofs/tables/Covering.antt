@@ -9,25 +9,28 @@ use lib.Bits.{bitXor, xor-comm, xor-shifted}
 use lib.Count.{ones}
 use lib.ListN.{length, getD}
 use lib.Pow.{pow-mono, pow-pos}
+use Rattle.rules.specs.Refusals.{largest}
 use Rattle.laws.specs.code.Matrix.{codeword-lt}
 use Rattle.laws.specs.seats.Copied.{coveredOf, covered-first, covered-more}
 use Rattle.laws.specs.seats.Seats.{seatIndex}
 use Rattle.laws.specs.seats.SeatedDown.{groups-blocks}
+use Rattle.word.specs.Words.{Held, wordAt}
 use Rattle.tree.specs.declared.group.Tree.{Tree}
-use Rattle.tree.specs.Grouping.{Grouped, Doubled}
+use Rattle.tree.specs.declared.group.Step.the-variants.{Above}
+use Rattle.tree.specs.Grouping.{Grouped, Doubled, stepOf}
 use Rattle.tree.specs.Seating.{Seated}
 use Rattle.tree.proofs.tables.SeatLoops.{index-at}
 use Rattle.tree.proofs.tables.Tabling.{few-groups, first-seat}
 use Rattle.tree.proofs.tables.WordsDoubled.{Begins, begins-doubled}
 
 -- the loop's invariant: the groups below m are done, and m is a power of two
-pub record Covering (g : Tree) (r : List ℕ) (m : ℕ) : Type 0 where
-  pub long : length r ≡ 64
+pub record Covering (g : Tree) (r : List Held) (m : ℕ) : Type 0 where
+  pub long : length r ≡ 2 ^ largest
   pub power : (b : ℕ) × (m ≡ 2 ^ b)
   pub done : Begins r (coveredOf (g .n) (g .folding)) m
 
 -- m is not 0
-pub some-done : {g : Tree} {r : List ℕ} {m : ℕ} → Covering g r m → 0 < m
+pub some-done : {g : Tree} {r : List Held} {m : ℕ} → Covering g r m → 0 < m
 some-done inv = rw (inv .power .1) (pow-pos (inv .power .0))
 
 -- a power of two below another: twice it is at most the other
@@ -44,13 +47,13 @@ module _ {g : Tree} (given : Grouped g) where
   count-is = given .all ∙ groups-blocks (g .n) (g .folding) (given .fits)
 
   -- group 0 covers itself alone
-  pub covering-first : (r : List ℕ) → length r ≡ 64 → getD r 0 0 ≡ 1 → Covering g r 1
+  pub covering-first : (r : List Held) → length r ≡ 2 ^ largest → wordAt r 0 ≡ 1 → Covering g r 1
   covering-first r long first = record { long = long; power = (0, refl); done = λ k h. go k (omega arith) }
     where
-      go : (k : ℕ) → k ≡ 0 → getD r k 0 ≡ coveredOf (g .n) (g .folding) k
+      go : (k : ℕ) → k ≡ 0 → wordAt r k ≡ coveredOf (g .n) (g .folding) k
       go k e = rw e (first ∙ sym (covered-first (g .n) (g .folding) (given .fits)))
 
-  module _ {r : List ℕ} {m : ℕ} (inv : Covering g r m) (inside : m < g .groups) where
+  module _ {r : List Held} {m : ℕ} (inv : Covering g r m) (inside : m < g .groups) where
     -- there are as many groups more
     groups-more : m + m ≤ g .groups
     groups-more = rw (inv .power .1, count-is) (twice-within (inv .power .0) _ (rw (inv .power .1, count-is) at inside))
@@ -73,19 +76,19 @@ module _ {g : Tree} (given : Grouped g) where
 
     -- as the code adds it: no one bit of the rest lies where it is moved to
     moved-xor : (k : ℕ) → k < m
-        → bitXor (coveredOf (g .n) (g .folding) k) (coveredOf (g .n) (g .folding) k * 2 ^ place % 2 ^ 64) ≡ coveredOf (g .n) (g .folding) (m + k)
+        → bitXor (coveredOf (g .n) (g .folding) k) (coveredOf (g .n) (g .folding) k * 2 ^ place % 2 ^ (2 ^ largest)) ≡ coveredOf (g .n) (g .folding) (m + k)
     moved-xor k h =
         let rest : ℕ = coveredOf (g .n) (g .folding) k in
-        let small : coveredOf (g .n) (g .folding) (m + k) < 2 ^ 64 =
-        lt-of-lt-of-le (codeword-lt (g .n) _) (pow-mono {j = 64} (pow-mono {j = 6} (given .small)))
+        let small : coveredOf (g .n) (g .folding) (m + k) < 2 ^ (2 ^ largest) =
+        lt-of-lt-of-le (codeword-lt (g .n) _) (pow-mono (pow-mono {j = largest} (given .small)))
         in
-        let fits : rest * 2 ^ place < 2 ^ 64 = omega (arith, moved k h .1, small) in
+        let fits : rest * 2 ^ place < 2 ^ (2 ^ largest) = omega (arith, moved k h .1, small) in
         ap (bitXor rest) (mod-eq-of-lt fits) ∙ xor-comm rest (rest * 2 ^ place) ∙ xor-shifted rest place rest (moved k h .0)
         ∙ add-comm (rest * 2 ^ place) rest ∙ sym (moved k h .1)
 
     -- one bit more doubles the groups
-    pub covering-next : {l after : List ℕ} → Seated l (g .n) (g .folding) → length after ≡ length r
-        → Doubled r after m (λ w. bitXor w (w * 2 ^ getD l (m * g .size) 0 % 2 ^ 64)) → Covering g after (m * 2)
+    pub covering-next : {l : List ℕ} {after : List Held} → Seated l (g .n) (g .folding) → length after ≡ length r
+        → Doubled r after m (stepOf (Above (getD l (m * g .size) 0))) → Covering g after (m * 2)
     covering-next {l = l} {after = after} seated same made =
         record {
           long = same ∙ inv .long;
@@ -96,7 +99,7 @@ module _ {g : Tree} (given : Grouped g) where
         here : getD l (m * g .size) 0 ≡ place
         here = index-at seated (m * g .size) (first-seat given inside) ∙ ap (λ (s : ℕ). seatIndex (g .n) (g .folding) (m * s)) (given .sized)
 
-        doubled : Doubled r after m (λ w. bitXor w (w * 2 ^ place % 2 ^ 64))
+        doubled : Doubled r after m (stepOf (Above place))
         doubled = rw here at made
 
         twice : m * 2 ≡ m + m

@@ -12,6 +12,7 @@ use lib.ListN.{length, getD, set, replicate, length-set, length-replicate, getD-
 use lib.Pow.{pow-pos}
 use lib.Seq.{getD-set-same, getD-set-other}
 use Rattle.rules.specs.Below.{sumBelow}
+use Rattle.rules.specs.Refusals.{largest}
 use Rattle.laws.specs.numbers.Sums.{sum-le, sum-const}
 use Rattle.laws.specs.rows.SortedRows.{row-cong}
 use Rattle.laws.specs.distance.Excess.{excess, nearest, excess-greatest, nearest-greatest, excess-one-bit}
@@ -20,17 +21,17 @@ use Rattle.tree.specs.Nodes.{most}
 use Rattle.tree.specs.Slots.{SmallSeats, Levelled, SeatGives, GroupGives, Gives, Ranked, seatLevel, nearSum}
 
 -- a small number put into a list of small ones
-small-set : (l : List ℕ) (i v : ℕ) → SmallSeats l → i < 64 → v < 2 ^ 20 → SmallSeats (set l i v)
+small-set : (l : List ℕ) (i v : ℕ) → SmallSeats l → i < 2 ^ largest → v < 2 ^ 20 → SmallSeats (set l i v)
 small-set l i v s h few =
     record { long = length-set l i v ∙ s .long; small = λ j hj. go j hj (ℕ-discrete j i) }
   where
-    go : (j : ℕ) → j < 64 → Dec (j ≡ i) → getD (set l i v) j 0 < 2 ^ 20
+    go : (j : ℕ) → j < 2 ^ largest → Dec (j ≡ i) → getD (set l i v) j 0 < 2 ^ 20
     go j hj (yes e) = rw (e, getD-set-same l i v 0 (rw (s .long) h)) few
     go j hj (no n) = rw (getD-set-other l i j v 0 n) (s .small j hj)
 
 -- a list of zeros
-pub small-none : SmallSeats (replicate 64 0)
-small-none = record { long = length-replicate {A = ℕ} 64 0; small = λ i h. rw (getD-replicate {A = ℕ} 64 i 0 0 h) (pow-pos 20) }
+pub small-none : SmallSeats (replicate (2 ^ largest) 0)
+small-none = record { long = length-replicate {A = ℕ} (2 ^ largest) 0; small = λ i h. rw (getD-replicate {A = ℕ} (2 ^ largest) i 0 0 h) (pow-pos 20) }
 
 module _ (levels : List ℤ) (index : List ℕ) (first : ℕ) (zeros units : List ℕ) where
   -- no slot yet
@@ -60,11 +61,11 @@ module _ (levels : List ℤ) (index : List ℕ) (first : ℕ) (zeros units : Lis
     -- and at this one
     put : SeatGives levels index (set zero (first + t) z) (set one (first + t) o) (first + t)
     put =
-        let inside : first + t < 64 = omega (arith, levelled .within) in
+        let inside : first + t < 2 ^ largest = omega (arith, levelled .within) in
         (getD-set-same zero (first + t) z 0 (rw (g .small-zero .long) inside) ∙ given .1, getD-set-same one (first + t) o 0 (rw (g .small-one .long) inside) ∙ given .2)
 
     -- the nearer bits so far and of this slot cost little
-    pub near-small : size ≤ 64 → near + r < 2 ^ 32
+    pub near-small : size ≤ 2 ^ largest → near + r < 2 ^ 32
     near-small few =
         omega (
           arith,
@@ -117,7 +118,7 @@ all-none size small-zero small-one =
 
 -- one group more
 pub all-next : {levels : List ℤ} {index : List ℕ} {k size : ℕ} {zero one near zero' one' : List ℕ} {r : ℕ} → Gives levels index k size zero one near
-    → GroupGives levels index (k * size) zero one size zero' one' r → length near ≡ 64 → k < 64
+    → GroupGives levels index (k * size) zero one size zero' one' r → length near ≡ 2 ^ largest → k < 2 ^ largest
     → Gives levels index (k + 1) size zero' one' (set near k r)
 all-next {levels} {index} {k} {size} {zero} {one} {near} {zero'} {one'} {r} all group long few =
     record {

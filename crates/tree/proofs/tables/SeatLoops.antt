@@ -9,13 +9,14 @@ use lib.ListN.{getD}
 use lib.Pow.{pow-mono}
 use lib.Seq.{getD-take}
 use Rattle.rules.specs.Word.{bit}
+use Rattle.rules.specs.Refusals.{largest}
 use Rattle.laws.specs.seats.Seats.{seatIndex, seat-below}
 use Rattle.laws.specs.seats.SeatWords.{unseatBelow, unseat-step}
 use Rattle.tree.specs.Seating.{Seated}
 
 module _ {l : List ℕ} {n folding : ℕ} (given : Seated l n folding) where
   -- every seat is a slot of the largest block
-  seats-fit : 2 ^ n ≤ 64
+  seats-fit : 2 ^ n ≤ 2 ^ largest
   seats-fit = pow-mono (given .few)
 
   -- the index at a seat
@@ -24,7 +25,7 @@ module _ {l : List ℕ} {n folding : ℕ} (given : Seated l n folding) where
 
   module _ {p : ℕ} (h : p < 2 ^ n) where
     -- is an index of the largest block
-    pub index-fits : getD l p 0 < 64
+    pub index-fits : getD l p 0 < 2 ^ largest
     index-fits = rw (index-at p h) (lt-of-lt-of-le (seat-below n folding (given .fits) p h) seats-fit)
 
     -- one seat more

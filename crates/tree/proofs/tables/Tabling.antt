@@ -7,11 +7,12 @@ use native.Mathlib.Omega.{arith}
 use lib.Bits.{bitAnd, bitXor}
 use lib.Count.{ones, ones-le}
 use lib.ListN.{getD}
-use lib.Pow.{pow-pos, pow-mono, ones-lt, ones-split}
+use lib.Pow.{pow-pos, pow-lt, pow-mono, ones-lt, ones-split}
 use Rattle.rules.specs.Below.{sumBelow}
 use Rattle.rules.specs.Word.{bit}
+use Rattle.rules.specs.Refusals.{largest}
 use Rattle.laws.specs.numbers.Sums.{sum-zero, sum-split}
-use Rattle.laws.specs.numbers.Bits.{power-shifted, bit-beyond, bit-high}
+use Rattle.laws.specs.numbers.Bits.{bit-beyond, bit-high}
 use Rattle.laws.specs.walk.GroupSizes.{groups-all}
 use Rattle.laws.specs.seats.Seats.{seatIndex}
 use Rattle.laws.specs.seats.SeatWords.{seat, unseat, unseatBelow, unseat-lt}
@@ -19,6 +20,7 @@ use Rattle.laws.specs.seats.SeatedRow.{blockOf}
 use Rattle.laws.specs.seats.SeatedBlocks.{unseat-block}
 use Rattle.laws.specs.seats.Decided.{shutOf, shut-block}
 use Rattle.laws.specs.seats.Copied.{shut-is}
+use Rattle.word.specs.Words.{Held, wordAt}
 use Rattle.tree.specs.declared.group.Tree.{Tree}
 use Rattle.tree.specs.Grouping.{GroupSize}
 use Rattle.tree.specs.Grouping.{Grouped, Shut}
@@ -52,12 +54,12 @@ module _ {g : Tree} (given : Grouped g) where
   all-indices = ap₂ (λ (a b : ℕ). a * b) (given .all) (given .sized) ∙ groups-all (g .n) (g .folding) (given .fits)
 
   -- there are no more groups than slots in the largest block
-  pub few-groups : g .groups ≤ 64
-  few-groups = omega (arith, mul-le-mul-left (g .groups) some-size, mul-one (g .groups), all-indices, pow-mono {j = 6} (given .small))
+  pub few-groups : g .groups ≤ 2 ^ largest
+  few-groups = omega (arith, mul-le-mul-left (g .groups) some-size, mul-one (g .groups), all-indices, pow-mono {j = largest} (given .small))
 
   -- a group's frozen indices are those of the mask, in seat order too
-  pub frozen-block : (shut : List ℕ) (mask : ℕ) → Shut shut g mask → (k : ℕ) → k < g .groups
-      → blockOf (g .size) k (seat (g .n) (g .folding) (getD shut k 0)) ≡ blockOf (g .size) k (seat (g .n) (g .folding) mask)
+  pub frozen-block : (shut : List Held) (mask : ℕ) → Shut shut g mask → (k : ℕ) → k < g .groups
+      → blockOf (g .size) k (seat (g .n) (g .folding) (wordAt shut k)) ≡ blockOf (g .size) k (seat (g .n) (g .folding) mask)
   frozen-block shut mask frozen k h =
       ap (λ (x : ℕ). blockOf (g .size) k (seat (g .n) (g .folding) x)) (rw (← given .sized) at (frozen k h))
       ∙ rw (← given .sized) at (shut-block (g .n) (g .folding) (given .fits) mask k (rw (← given .all) h))
@@ -67,8 +69,8 @@ module _ {g : Tree} (given : Grouped g) where
   first-seat h = rw (← all-indices) (mul-lt-mul-of-pos-right h some-size)
 
   -- is a slot of the largest block
-  pub first-seat-fits : {k : ℕ} → k < g .groups → k * g .size < 64
-  first-seat-fits h = lt-of-lt-of-le (first-seat h) (pow-mono {j = 6} (given .small))
+  pub first-seat-fits : {k : ℕ} → k < g .groups → k * g .size < 2 ^ largest
+  first-seat-fits h = lt-of-lt-of-le (first-seat h) (pow-mono {j = largest} (given .small))
 
   -- a seat of group 0
   pub seat-within : {t : ℕ} → t < g .size → t < 2 ^ g .n
@@ -90,18 +92,18 @@ module _ {g : Tree} (given : Grouped g) where
   module _ {l : List ℕ} (seated : Seated l (g .n) (g .folding)) where
     -- one index of group 0 more
     pub group-next : {t : ℕ} → t < g .size
-        → bitXor (unseatBelow (g .n) (g .folding) (2 ^ g .size - 1) t) (1 * 2 ^ getD l t 0 % 2 ^ 64) ≡ unseatBelow (g .n) (g .folding) (2 ^ g .size - 1) (t + 1)
+        → bitXor (unseatBelow (g .n) (g .folding) (2 ^ g .size - 1) t) (2 ^ getD l t 0 % 2 ^ (2 ^ largest)) ≡ unseatBelow (g .n) (g .folding) (2 ^ g .size - 1) (t + 1)
     group-next {t = t} h =
-        rw (power-shifted 64 (getD l t 0) (index-fits seated (seat-within h)))
+        rw (mod-eq-of-lt (pow-lt (index-fits seated (seat-within h))))
         (rw (bit-ones (g .size) t h, one-mul (2 ^ getD l t 0)) at (unseat-next seated (seat-within h) (2 ^ g .size - 1)))
 
     -- the frozen indices of a group, from the indices of group 0
     pub shut-here : (mask own : ℕ) → own ≡ unseat (g .n) (g .folding) (2 ^ g .size - 1) → {k : ℕ} → k < g .groups
-        → bitAnd mask (own * 2 ^ getD l (k * g .size) 0 % 2 ^ 64) ≡ shutOf (g .n) (g .folding) mask k
+        → bitAnd mask (own * 2 ^ getD l (k * g .size) 0 % 2 ^ (2 ^ largest)) ≡ shutOf (g .n) (g .folding) mask k
     shut-here mask own e {k = k} h =
         let inside = rw (given .all) at h in
-        let fits : unseat (g .n) (g .folding) (2 ^ (2 ^ ones (g .folding)) - 1) * 2 ^ seatIndex (g .n) (g .folding) (k * 2 ^ ones (g .folding)) < 2 ^ 64 =
+        let fits : unseat (g .n) (g .folding) (2 ^ (2 ^ ones (g .folding)) - 1) * 2 ^ seatIndex (g .n) (g .folding) (k * 2 ^ ones (g .folding)) < 2 ^ (2 ^ largest) =
         rw (← unseat-block (g .n) (g .folding) (given .fits) k (2 ^ (2 ^ ones (g .folding)) - 1) inside (ones-lt (2 ^ ones (g .folding))))
-        (lt-of-lt-of-le (unseat-lt (g .n) (g .folding) (given .fits) _) (pow-mono {j = 64} (pow-mono {j = 6} (given .small))))
+        (lt-of-lt-of-le (unseat-lt (g .n) (g .folding) (given .fits) _) (pow-mono (pow-mono {j = largest} (given .small))))
         in
         rw (e, index-at seated (k * g .size) (first-seat h), given .sized, mod-eq-of-lt fits) (shut-is (g .n) (g .folding) (given .fits) mask k inside)

@@ -11,6 +11,7 @@ use lib.ListN.{length, take, getD, length-map, List·getD-map, List·getD-append
 use lib.Pow.{pow-mono}
 use lib.Seq.{getD-take, getD-append-add, length-take-le}
 use Rattle.rules.specs.Below.{countBelow, sumBelow}
+use Rattle.rules.specs.Refusals.{largest}
 use Rattle.laws.specs.numbers.CountBelow.{count-passing, count-failing, count-mono}
 use Rattle.laws.specs.seats.Seats.{widened, widenedBy}
 use Rattle.tree.specs.Seating.{AtMost}
@@ -26,11 +27,11 @@ pub record Widened (l : List ℕ) (m : ℕ) (test : ℕ → Bool) (b : ℕ) (ind
   pub same : length index ≡ length l
   pub counted : many ≡ m * 2 ^ countBelow b test
   pub listed : take many index ≡ widenedBy test b (take m l)
-  pub small : (c : ℕ) → AtMost l m c → AtMost index many (c + 64 * b)
+  pub small : (c : ℕ) → AtMost l m c → AtMost index many (c + 2 ^ largest * b)
 
 -- there is room for one bit more that passes
-pub widened-room : (m : ℕ) (test : ℕ → Bool) (n b many : ℕ) → m * 2 ^ countBelow n test ≤ 64 → b < n → test b ≡ true → many ≡ m * 2 ^ countBelow b test
-    → many + many ≤ 64
+pub widened-room : (m : ℕ) (test : ℕ → Bool) (n b many : ℕ) → m * 2 ^ countBelow n test ≤ 2 ^ largest → b < n → test b ≡ true → many ≡ m * 2 ^ countBelow b test
+    → many + many ≤ 2 ^ largest
 widened-room m test n b many room before passes counted =
     let doubled : m * 2 ^ countBelow (suc b) test ≡ many * 2 =
     ap (λ (k : ℕ). m * 2 ^ k) (count-passing test b passes) ∙ ap (λ (x : ℕ). m * x) (pow-suc 2 (countBelow b test))
@@ -45,7 +46,7 @@ module _ (l : List ℕ) (m : ℕ) (test : ℕ → Bool) where
 
   module _ (b : ℕ) {index : List ℕ} {many : ℕ} (before : Widened l m test b index many) where
     -- a bit that passes
-    pub widened-passing : test b ≡ true → (next : List ℕ) → length next ≡ length index → many + many ≤ length index → 2 ^ b ≤ 64
+    pub widened-passing : test b ≡ true → (next : List ℕ) → length next ≡ length index → many + many ≤ length index → 2 ^ b ≤ 2 ^ largest
         → take (many + many) next ≡ widened (take many index) (2 ^ b) → Widened l m test (b + 1) next (many * 2)
     unfolding widenedBy
     widened-passing passes next same room short doubled =
@@ -79,7 +80,7 @@ module _ (l : List ℕ) (m : ℕ) (test : ℕ → Bool) where
             any-default stepped r 0 (0 + 2 ^ b) (omega (arith, lengths, length-map (take many index) (λ i. i + 2 ^ b)))
             ∙ List·getD-map (λ i. i + 2 ^ b) (take many index) r 0 ∙ ap (λ (x : ℕ). x + 2 ^ b) (getD-take many index r 0 h)
 
-        small : (c : ℕ) → AtMost l m c → (q : ℕ) → q < many + many → Dec (q < many) → getD next q 0 ≤ c + 64 * suc b
+        small : (c : ℕ) → AtMost l m c → (q : ℕ) → q < many + many → Dec (q < many) → getD next q 0 ≤ c + 2 ^ largest * suc b
         small c given q h (yes low) =
             omega (arith, at q h, List·getD-append (take many index) stepped 0 q (omega (arith, lengths)), getD-take many index q 0 low, before .small c given q low)
         small c given q h (no high) =

@@ -9,13 +9,14 @@ use borrow.Author.Needs.{needs}
 use borrow.Author.Count.{below-none}
 use Rattle.rules.specs.Word.{bit}
 use Rattle.rules.specs.Level as rules
+use Rattle.word.specs.Words.{wordOf}
 use Rattle.laws.specs.numbers.Each.{each-stored, each-all}
 use Rattle.code.proofs.levels.fill.Statement.{statement}
 use Rattle.code.proofs.levels.fill.Tie as tie
 
 abbrev Inv-loop : tie.InvT-loop
 Inv-loop x levels₀ i₀ levels i =
-    (i ≤ length levels) × (length levels ≡ length levels₀) × ((j : ℕ) → j < i → getD levels j (pos 0) ≡ rules.ideal (bit x j))
+    (i ≤ length levels) × (length levels ≡ length levels₀) × ((j : ℕ) → j < i → getD levels j (pos 0) ≡ rules.ideal (bit (wordOf x) j))
 
 abbrev μ-loop : tie.MeasureT-loop
 μ-loop x levels₀ i₀ levels i = length levels - i

@@ -8,8 +8,9 @@ use lib.Pow.{pow-mono}
 use lib.Seq.{length-take-le}
 use Rattle.rules.specs.Answers.{decodeAnswer}
 use Rattle.rules.specs.Record.{Fields}
+use Rattle.rules.specs.Refusals.{largest}
 use Rattle.laws.specs.answers.Records.{Taken, read-refused, read-decoded, read-taken}
-use Rattle.word.specs.Words.{sizeOf}
+use Rattle.word.specs.Words.{wordOf, sizeOf}
 use Rattle.word.specs.Sizes.{slots-are}
 use Rattle.record.specs.Reading.{fieldsIn, verdictOn}
 use borrow.Author.Needs.{needs}
@@ -19,7 +20,7 @@ use Rattle.record.proofs.block.decode.Tie as tie
 -- the slots of a record that was taken have levels
 held : {bytes : List ℕ} {f : Fields} → Taken bytes f → (slots : ℕ) → slots ≡ 2 ^ sizeOf (f .n) → slots ≤ length (f .levels)
 held {f = f} taken slots count =
-    omega (arith, taken .long, slots-are (f .n) slots (taken .right .code .small) count, pow-mono {i = f .n} {j = 6} (taken .right .code .small))
+    omega (arith, taken .long, slots-are (f .n) slots (taken .right .code .small) count, pow-mono {i = f .n} {j = largest} (taken .right .code .small))
 
 read-requires : tie.Need-read-requires
 read-requires c κs = search needs
@@ -56,12 +57,13 @@ decode-requires c κs = search needs
 
 returns-2 : tie.Need-returns-2
 returns-2 c =
+    let fields = c .before .before .before .before .before .before .before .read .result .fields in
     let reads =
-    sym (c .before .before .before .before .before .before .before .read .ensures .0) ∙ ap (λ v. verdictOn v (fieldsIn (c .before .before .before .before .before .before .before .read .result .fields))) (c .before .before .before .before .before .enum-told .given .1)
+    sym (c .before .before .before .before .before .before .before .read .ensures .0) ∙ ap (λ v. verdictOn v (fieldsIn fields)) (c .before .before .before .before .before .enum-told .given .1)
     in
     let taken = read-taken _ _ reads in
     c .decode .ensures
-    ∙ ap (λ (m : ℕ). decodeAnswer (c .before .before .before .before .before .before .before .read .result .fields .n) (take m (c .before .before .before .before .before .before .before .read .result .fields .levels)) (c .before .before .before .before .before .before .before .read .result .fields .mask) (c .before .before .before .before .before .before .before .read .result .fields .folding) (c .before .before .before .before .before .before .before .read .result .fields .allowance)) (slots-are _ _ (taken .right .code .small) (c .before .before .slots .ensures))
+    ∙ ap (λ (m : ℕ). decodeAnswer (fields .n) (take m (fields .levels)) (wordOf (fields .mask)) (fields .folding) (fields .allowance)) (slots-are _ _ (taken .right .code .small) (c .before .before .slots .ensures))
     ∙ sym (read-decoded _ _ reads)
 
 pub decode-spec : {M : Type 1} → statement M

@@ -7,7 +7,7 @@ use borrow.Author.Tests.{lt-ltb, le-ltb}
 use Rattle.rules.specs.Refusals.{answer, isWrongSize}
 use Rattle.rules.specs.Record.{fieldsOf, readAnswer}
 use Rattle.laws.specs.answers.Orders.{passed-done}
-use Rattle.word.specs.Words.{sizeOf}
+use Rattle.word.specs.Words.{wordOf, sizeOf}
 use Rattle.word.specs.Sizes.{right-size}
 use Rattle.checks.specs.Verdicts.{verdictOf, foldedVerdict}
 use Rattle.checks.specs.Passing.{folded-passed, folded-refused}
@@ -54,12 +54,15 @@ after12 c = after1 (c .before .before .before) ∙ rw (zero-test (c .before) ∙
 
 -- the verdict on the record's code and folding
 abbrev read12 : tie.After-folded → tie.Else3
-read12 c = c .before .before .before
+read12 c = c .before .before .before .before
+
+mask-read : (c : tie.After-folded) → wordOf (c .before .before .of .result) ≡ maskAt (bytes12 (read12 c))
+mask-read c = c .before .before .of .ensures ∙ c .before .before .before .eight .ensures
 
 folded-test : (c : tie.After-folded)
     → verdictOf (c .folded .result) ≡ foldedVerdict (sizeAt (bytes12 (read12 c))) (maskAt (bytes12 (read12 c))) (foldingAt (bytes12 (read12 c)))
 folded-test c =
-    rw (← size-read (read12 c .before .before .before), ← c .before .before .eight .ensures, ← c .before .one2 .ensures) (c .folded .ensures)
+    rw (← size-read (read12 c .before .before .before), ← mask-read c, ← c .before .one2 .ensures) (c .folded .ensures)
 
 refused-requires : tie.Need-refused-requires
 refused-requires c κs = search needs
@@ -96,6 +99,9 @@ returns-3 c = refused-right _ (after1 (c .before .before .before .before) ∙ rw
 
 eight-requires : tie.Need-eight-requires
 eight-requires c κs = search needs
+
+of-requires : tie.Need-of-requires
+of-requires c κs = search needs
 
 one-requires-2 : tie.Need-one-requires-2
 one-requires-2 c κs = search needs
@@ -139,7 +145,7 @@ returns-5 c =
       n = size-read (read12 verdict .before .before .before) i;
       folding = verdict .before .one2 .ensures i;
       allowance = c .before .four .ensures i;
-      mask = verdict .before .before .eight .ensures i;
+      mask = mask-read verdict i;
       levels = c .levels .ensures i;
     })
 
@@ -159,6 +165,7 @@ read-spec =
     refused-requires-3
     returns-3
     eight-requires
+    of-requires
     one-requires-2
     cast-folding
     folded-requires

@@ -5,6 +5,7 @@ use mathlib.Core.List.{List, _++_, append-assoc}
 use native.Mathlib.Omega.{arith}
 use Rattle.rules.specs.Text.{decimal, hex, space, foundWord, lineEnd, line}
 use Rattle.laws.specs.numbers.Digits.{hex-length}
+use Rattle.word.specs.Words.{wordOf}
 use Rattle.record.specs.Lines.{Within, found}
 use Rattle.record.proofs.Puts.{within-then, room-left, ten-digits, spaced-short}
 use borrow.Author.Needs.{needs}
@@ -16,7 +17,7 @@ abbrev word : tie.Start → List ℕ
 word c = decimal (c .args .number) ++ (space ++ foundWord ++ space)
 
 abbrev message : tie.Start → List ℕ
-message c = word c ++ hex 16 (c .args .message)
+message c = word c ++ hex 16 (wordOf (c .args .message))
 
 abbrev distance : tie.Start → List ℕ
 distance c = message c ++ (space ++ decimal (c .args .distance))
@@ -24,7 +25,7 @@ distance c = message c ++ (space ++ decimal (c .args .distance))
 abbrev visits : tie.Start → List ℕ
 visits c = distance c ++ (space ++ decimal (c .args .visits))
 
-whole : (c : tie.Start) (d x : ℕ) → visits c ++ lineEnd ≡ line (c .args .number) (found (c .args .message) d x (c .args .distance) (c .args .visits))
+whole : (c : tie.Start) (d x : ℕ) → visits c ++ lineEnd ≡ line (c .args .number) (found (wordOf (c .args .message)) d x (c .args .distance) (c .args .visits))
 unfolding line
 whole c d x = simp append-assoc
 
@@ -45,11 +46,11 @@ word-put : (c : tie.After-put-bytes) → Part (start2 c) 17 (word (start2 c)) (c
 word-put c = within-then (number-put (c .before .before .before .before .before)) 7 (c .put-bytes .ensures) (omega arith)
 
 abbrev start3 : tie.After-put-hex → tie.Start
-start3 c = start2 (c .before .before .before .before)
+start3 c = start2 (c .before .before .before .before .before)
 
 message-put : (c : tie.After-put-hex) → Part (start3 c) 33 (message (start3 c)) (c .put-hex .result) (c .put-hex .last .0)
 message-put c =
-    within-then (word-put (c .before .before .before .before)) 16 (c .put-hex .ensures) (omega (arith, hex-length 16 (start3 c .args .message)))
+    within-then (word-put (c .before .before .before .before .before)) 16 (rw (c .before .low .ensures) at (c .put-hex .ensures)) (omega (arith, hex-length 16 (wordOf (start3 c .args .message))))
 
 abbrev start4 : tie.After-put-spaced → tie.Start
 start4 c = start3 (c .before .before .before .before)
@@ -72,8 +73,11 @@ slice-aggregate-put-bytes c = search needs
 put-bytes-requires : tie.Need-put-bytes-requires
 put-bytes-requires c κs = room-left (number-put (c .before .before .before .before)) 7 (start1 (c .before .before .before .before) .pre) (omega arith)
 
+low-requires : tie.Need-low-requires
+low-requires c κs = search needs
+
 put-hex-requires : tie.Need-put-hex-requires
-put-hex-requires c κs = room-left (word-put (c .before .before .before)) 16 (start2 (c .before .before .before) .pre) (omega arith)
+put-hex-requires c κs = room-left (word-put (c .before .before .before .before)) 16 (start2 (c .before .before .before .before) .pre) (omega arith)
 
 put-spaced-requires : tie.Need-put-spaced-requires
 put-spaced-requires c κs =
@@ -112,6 +116,7 @@ put-found-spec =
     put-decimal-requires
     slice-aggregate-put-bytes
     put-bytes-requires
+    low-requires
     put-hex-requires
     put-spaced-requires
     put-spaced-requires-2

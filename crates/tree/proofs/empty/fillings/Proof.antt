@@ -4,6 +4,7 @@ use native.Mathlib.Omega.{arith}
 use lib.Count.{ones}
 use borrow.Author.Needs.{needs}
 use Rattle.laws.specs.numbers.Bits.{power-shifted}
+use Rattle.word.specs.Words.{wordOf}
 use Rattle.tree.proofs.empty.fillings.Statement.{statement}
 use Rattle.tree.proofs.empty.fillings.Tie as tie
 
@@ -25,7 +26,7 @@ shl-result c = search needs
 returns : tie.Need-returns
 returns c =
     rw (c .ones .ensures)
-    (power-shifted 32 (c .before .args .size - ones (c .before .args .shut)) (omega (arith, c .before .pre .0)))
+    (power-shifted 32 (c .before .args .size - ones (wordOf (c .before .args .shut))) (omega (arith, c .before .pre .0)))
 
 pub fillings-spec : {M : Type 1} → statement M
 fillings-spec =

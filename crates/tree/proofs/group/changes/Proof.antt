@@ -6,6 +6,8 @@ use native.Mathlib.Omega.{arith}
 use lib.Pow.{pow-mono}
 use borrow.Author.Needs.{needs}
 use Rattle.rules.specs.Word.{codeword}
+use Rattle.rules.specs.Refusals.{largest}
+use Rattle.word.specs.Tables.{none-at}
 use Rattle.tree.proofs.tables.Tabling.{size-small}
 use Rattle.tree.proofs.tables.Changing.{Changed, changed-first, room-for-more, changed-next, column-is}
 use Rattle.tree.proofs.group.changes.Statement.{statement}
@@ -17,34 +19,37 @@ Inv-loop index tree r₀ t₀ r t = Changed tree r t
 abbrev μ-loop : tie.MeasureT-loop
 μ-loop index tree r₀ t₀ r t = tree .size - t
 
+none-requires : tie.Need-none-requires Inv-loop μ-loop
+none-requires c κs = search needs
+
 loop-holds : tie.Need-loop-holds Inv-loop μ-loop
-loop-holds c = changed-first _ _ refl refl
+loop-holds c = changed-first _ _ refl (none-at _ (c .none .ensures) 256 0)
 
-mul-above : tie.Need-mul-above Inv-loop μ-loop
-mul-above c = omega (arith, size-small (c .before .before .before .pre .0))
+mul-single : tie.Need-mul-single Inv-loop μ-loop
+mul-single c = omega (arith, size-small (c .before .before .before .before .pre .0))
 
-element-copy-out-above : tie.Need-element-copy-out-above Inv-loop μ-loop
-element-copy-out-above c = omega (arith, size-small (c .before .before .before .pre .0))
+element-copy-out-single : tie.Need-element-copy-out-single Inv-loop μ-loop
+element-copy-out-single c = omega (arith, size-small (c .before .before .before .before .pre .0))
 
-above-requires : tie.Need-above-requires Inv-loop μ-loop
-above-requires c κs = search needs
+single-requires : tie.Need-single-requires Inv-loop μ-loop
+single-requires c κs = search needs
 
 map-requires : tie.Need-map-requires Inv-loop μ-loop
 map-requires c κs = search needs
 
-slice-aggregate-double-words : tie.Need-slice-aggregate-double-words Inv-loop μ-loop
-slice-aggregate-double-words c = sym (c .before .before .before .before .before .before .loop .inv .long)
+slice-aggregate-double : tie.Need-slice-aggregate-double Inv-loop μ-loop
+slice-aggregate-double c = sym (c .before .before .before .before .before .before .loop .inv .long)
 
-shl-double-words : tie.Need-shl-double-words Inv-loop μ-loop
-shl-double-words c = omega (arith, size-small (c .before .before .before .before .before .before .before .pre .0), c .before .before .before .before .if1 .taken)
+shl-double : tie.Need-shl-double Inv-loop μ-loop
+shl-double c = omega (arith, size-small (c .before .before .before .before .before .before .before .before .pre .0), c .before .before .before .before .if1 .taken)
 
-double-words-requires : tie.Need-double-words-requires Inv-loop μ-loop
-double-words-requires c κs =
+double-requires : tie.Need-double-requires Inv-loop μ-loop
+double-requires c κs =
     let test = c .before .before .before .before in
-    room-for-more (test .before .before .before .pre .0) (test .before .before .loop .inv) (test .if1 .taken)
+    room-for-more (test .before .before .before .before .pre .0) (test .before .before .loop .inv) (test .if1 .taken)
 
 add-t : tie.Need-add-t Inv-loop μ-loop
-add-t c = omega (arith, size-small (c .before .before .before .before .before .before .before .before .before .pre .0), c .before .before .before .before .before .before .if1 .taken)
+add-t c = omega (arith, size-small (c .before .before .before .before .before .before .before .before .before .before .pre .0), c .before .before .before .before .before .before .if1 .taken)
 
 loop-less : tie.Need-loop-less Inv-loop μ-loop
 loop-less c = omega (arith, c .before .before .before .before .before .before .if1 .taken)
@@ -53,10 +58,10 @@ loop-again : tie.Need-loop-again Inv-loop μ-loop
 loop-again c =
     let column = c .before .before .before in
     let test = column .before .before .before in
-    let given = test .before .before .before .pre in
-    changed-next (given .0) (test .before .before .loop .inv) (test .if1 .taken) (c .before .double-words .kept .0)
-    (column .map .ensures ∙ ap (codeword 6) (column .before .above .ensures) ∙ column-is (given .0) (given .1) (test .if1 .taken))
-    (c .before .double-words .ensures)
+    let given = test .before .before .before .before .pre in
+    changed-next (given .0) (test .before .before .loop .inv) (test .if1 .taken) _ (c .before .double .kept .0)
+    (column .map .ensures ∙ ap (codeword largest) (column .before .single .ensures) ∙ column-is (given .0) (given .1) (test .if1 .taken))
+    (c .before .double .ensures)
 
 returns : tie.Need-returns Inv-loop μ-loop
 returns c u h = c .before .before .loop .inv .done u (lt-of-lt-of-le h (pow-mono (omega (arith, c .if1 .left))))
@@ -67,14 +72,15 @@ changes-spec =
     (tie.spec
     Inv-loop
     μ-loop
+    none-requires
     loop-holds
-    mul-above
-    element-copy-out-above
-    above-requires
+    mul-single
+    element-copy-out-single
+    single-requires
     map-requires
-    slice-aggregate-double-words
-    shl-double-words
-    double-words-requires
+    slice-aggregate-double
+    shl-double
+    double-requires
     add-t
     loop-less
     loop-again

@@ -1,19 +1,21 @@
 -- `tree::group::shut` meets its contract. Invariant: the groups below k are done.
-use Prim.Native.Nat.{ℕ, _-_, _*_, _<_}
+use Prim.Native.Nat.{ℕ, _-_, _*_, _^_, _<_}
 use mathlib.Core.Path.{_≡_, refl, ap, _∙_}
 use native.Mathlib.Omega.{arith}
 use lib.Bits.{bitAnd}
-use lib.ListN.{length, length-set, getD}
+use lib.ListN.{length, length-set}
 use borrow.Author.Needs.{needs}
-use Rattle.laws.specs.numbers.Each.{each-stored}
+use Rattle.rules.specs.Refusals.{largest}
 use Rattle.laws.specs.seats.Decided.{shutOf}
+use Rattle.word.specs.Words.{wordOf, wordAt}
+use Rattle.word.specs.Tables.{stored-next}
 use Rattle.tree.proofs.tables.Tabling.{few-groups, first-seat-fits, shut-here}
 use Rattle.tree.proofs.group.shut.Statement.{statement}
 use Rattle.tree.proofs.group.shut.Tie as tie
 
 abbrev Inv-loop : tie.InvT-loop
 Inv-loop index tree frozen own r₀ k₀ r k =
-    (length r ≡ 64) × ((j : ℕ) → j < k → getD r j 0 ≡ shutOf (tree .n) (tree .folding) frozen j)
+    (length r ≡ 2 ^ largest) × ((j : ℕ) → j < k → wordAt r j ≡ shutOf (tree .n) (tree .folding) (wordOf frozen) j)
 
 abbrev μ-loop : tie.MeasureT-loop
 μ-loop index tree frozen own r₀ k₀ r k = tree .groups - k
@@ -21,16 +23,19 @@ abbrev μ-loop : tie.MeasureT-loop
 first-group-requires : tie.Need-first-group-requires Inv-loop μ-loop
 first-group-requires c κs = c .pre
 
+none-requires : tie.Need-none-requires Inv-loop μ-loop
+none-requires c κs = search needs
+
 loop-holds : tie.Need-loop-holds Inv-loop μ-loop
 loop-holds c = (refl, λ j h. absurd (omega arith))
 
 -- a group's number is an index of the table
-small : (c : tie.After-struct-known2 Inv-loop μ-loop) → c .before .before .before .loop .k < 64
-small c = omega (arith, few-groups (c .before .before .before .before .before .pre .0), c .before .if1 .taken)
+small : (c : tie.After-struct-known2 Inv-loop μ-loop) → c .before .before .before .loop .k < 2 ^ largest
+small c = omega (arith, few-groups (c .before .before .before .before .before .before .pre .0), c .before .if1 .taken)
 
 -- the first seat of a group
-seat-at : (c : tie.After-struct-known2 Inv-loop μ-loop) → c .before .before .before .loop .k * c .before .before .before .before .before .args .tree .size < 64
-seat-at c = first-seat-fits (c .before .before .before .before .before .pre .0) (c .before .if1 .taken)
+seat-at : (c : tie.After-struct-known2 Inv-loop μ-loop) → c .before .before .before .loop .k * c .before .before .before .before .before .before .args .tree .size < 2 ^ largest
+seat-at c = first-seat-fits (c .before .before .before .before .before .before .pre .0) (c .before .if1 .taken)
 
 mul-first : tie.Need-mul-first Inv-loop μ-loop
 mul-first c = omega (arith, seat-at c)
@@ -62,14 +67,14 @@ loop-less c = omega (arith, c .before .before .before .before .if1 .taken)
 loop-again : tie.Need-loop-again Inv-loop μ-loop
 loop-again c =
     let known = c .before .before .before in
-    let given = known .before .before .before .before .before .pre in
-    let frozen = known .before .before .before .before .before .args .frozen in
+    let given = known .before .before .before .before .before .before .pre in
+    let frozen = known .before .before .before .before .before .before .args .frozen in
     let r = known .before .before .before .loop .r in
     let inv = known .before .before .before .loop .inv in
-    let own = known .before .before .before .before .first-group .ensures in (
+    let own = known .before .before .before .before .before .first-group .ensures in (
       length-set r _ _ ∙ inv .0,
-      each-stored (shutOf _ _ frozen) 0 r _ _ (omega (arith, inv .0, small known))
-          (c .common .ensures ∙ ap (bitAnd frozen) (c .before .above .ensures) ∙ shut-here (given .0) (given .1) frozen _ own (known .before .if1 .taken))
+      stored-next r _ _ (shutOf _ _ (wordOf frozen)) (omega (arith, inv .0, small known))
+          (c .common .ensures ∙ ap (bitAnd (wordOf frozen)) (c .before .above .ensures) ∙ shut-here (given .0) (given .1) (wordOf frozen) _ own (known .before .if1 .taken))
           (inv .1),
     )
 
@@ -83,6 +88,7 @@ shut-spec =
     Inv-loop
     μ-loop
     first-group-requires
+    none-requires
     loop-holds
     mul-first
     mul-above

@@ -9,6 +9,7 @@ use lib.ListN.{take, getD, replicate}
 use lib.Pow.{pow-mono}
 use Rattle.laws.specs.seats.Seats.{seats, widenedBy, hasBit, ones-count, high-size}
 use Rattle.rules.specs.Below.{countBelow}
+use Rattle.rules.specs.Refusals.{largest}
 use borrow.Author.Needs.{needs}
 use Rattle.tree.proofs.seat.seats.Statement.{statement}
 use Rattle.tree.proofs.seat.seats.Tie as tie
@@ -19,9 +20,9 @@ first-small l zero c h = omega arith
 first-small l (suc q) c h = absurd (omega arith)
 
 -- one index widened by the folding's bits has room
-inside-room : (n folding : ℕ) → n ≤ 6 → folding < 2 ^ n → 1 * 2 ^ countBelow n (hasBit folding 1) ≤ 64
+inside-room : (n folding : ℕ) → n ≤ largest → folding < 2 ^ n → 1 * 2 ^ countBelow n (hasBit folding 1) ≤ 2 ^ largest
 inside-room n folding few fits =
-    rw (ones-count n folding fits) (omega (arith, pow-mono {i = ones folding} {j = 6} (le-trans (ones-le n folding fits) few)))
+    rw (ones-count n folding fits) (omega (arith, pow-mono {i = ones folding} {j = largest} (le-trans (ones-le n folding fits) few)))
 
 -- and once more widened by the other bits it makes all seats
 all-seats : (n folding inside : ℕ) → folding < 2 ^ n → inside ≡ 1 * 2 ^ countBelow n (hasBit folding 1)
@@ -40,7 +41,7 @@ slice-aggregate-widen-by-2 : tie.Need-slice-aggregate-widen-by-2
 slice-aggregate-widen-by-2 c = search needs
 
 widen-by-requires-2 : tie.Need-widen-by-requires-2
-widen-by-requires-2 c κs = record { long = c .before .before .widen-by .kept .0; room = rw (all-seats _ _ _ (c .before .before .before .before .pre .1) (c .before .before .widen-by .ensures .0)) (pow-mono {j = 6} (c .before .before .before .before .pre .0)); small = λ q h. omega (arith, c .before .before .widen-by .ensures .1 .1 0 (λ r l. first-small (replicate 63 0) r 0 l) q h, c .before .before .before .before .pre .0); few = c .before .before .before .before .pre .0 }
+widen-by-requires-2 c κs = record { long = c .before .before .widen-by .kept .0; room = rw (all-seats _ _ _ (c .before .before .before .before .pre .1) (c .before .before .widen-by .ensures .0)) (pow-mono {j = largest} (c .before .before .before .before .pre .0)); small = λ q h. omega (arith, c .before .before .widen-by .ensures .1 .1 0 (λ r l. first-small (replicate 63 0) r 0 l) q h, c .before .before .before .before .pre .0); few = c .before .before .before .before .pre .0 }
 
 returns : tie.Need-returns
 unfolding seats

@@ -1,11 +1,12 @@
 -- `tree::slot::gives` meets its contract: what the groups so far give is in the lists.
-use Prim.Native.Nat.{ℕ, _-_, _*_, _≤_, _<_}
+use Prim.Native.Nat.{ℕ, _-_, _*_, _≤_, _<_, _^_}
 use mathlib.Core.Path.{_≡_, _∙_}
 use mathlib.Core.List.{List}
 use native.Mathlib.Nat.{mul-le-mul-right, suc-mul}
 use native.Mathlib.Omega.{arith}
 use lib.IntN.{ℤ}
 use lib.ListN.{length, length-set}
+use Rattle.rules.specs.Refusals.{largest}
 use Rattle.tree.specs.Slots.{Levelled, Gives}
 use Rattle.tree.proofs.tables.Tabling.{few-groups}
 use Rattle.tree.proofs.tables.Giving.{later-seats, all-none, all-next}
@@ -14,7 +15,7 @@ use Rattle.tree.proofs.slot.gives.Tie as tie
 
 abbrev Inv-loop : tie.InvT-loop
 Inv-loop levels index tree zero₀ one₀ near₀ k₀ zero one near k =
-    Gives levels index k (tree .size) zero one near × (length near ≡ 64) × (k ≤ tree .groups)
+    Gives levels index k (tree .size) zero one near × (length near ≡ 2 ^ largest) × (k ≤ tree .groups)
 
 abbrev μ-loop : tie.MeasureT-loop
 μ-loop levels index tree zero₀ one₀ near₀ k₀ zero one near k = tree .groups - k
@@ -37,7 +38,7 @@ group-gives-requires c κs =
     let all = c .before .before .before .before .before .loop .inv .0 in
     (group (args .groups) (args .size) _ (c .before .before .before .before .before .before .pre .0 .1) (c .before .before .before .if1 .taken), all .small-zero, all .small-one)
 
-k-small : (c : tie.After-group-gives Inv-loop μ-loop) → c .before .before .before .before .before .before .loop .k < 64
+k-small : (c : tie.After-group-gives Inv-loop μ-loop) → c .before .before .before .before .before .before .loop .k < 2 ^ largest
 k-small c = omega (arith, few-groups (c .before .before .before .before .before .before .before .pre .0 .0), c .before .before .before .before .if1 .taken)
 
 mul-near : tie.Need-mul-near Inv-loop μ-loop

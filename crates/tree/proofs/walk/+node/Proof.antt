@@ -5,6 +5,7 @@ use mathlib.Core.Logic.{⊎-elim}
 use native.Mathlib.Omega.{arith}
 use borrow.Author.Needs.{needs}
 use borrow.Author.Tests.{ltb-true, ltb-false}
+use Rattle.word.specs.Words.{wordOf}
 use Rattle.tree.proofs.nodes.Steps.{narrow, few-groups, inside, change-fits, near-fits, reached-fits, given-down}
 use Rattle.tree.proofs.nodes.Trying.{Trying, below, total-is, product-is, next-is, at-leaf, given-next, trying-none, trying-end, trying-shut, trying-out, trying-cut, trying-stopped, trying-back}
 use borrow.Fn.Kinds.{In}
@@ -51,7 +52,7 @@ claims t = (
 
 abbrev node-Inv-loop : node-lts.InvT-loop
 node-Inv-loop rows change tables tree left partial w k size entries base s₀ j₀ s j =
-    Trying rows change tables tree left partial w k size entries base s₀ s j
+    Trying rows change tables tree left partial (wordOf w) k size entries base s₀ s j
 
 abbrev node-μ-loop : node-lts.MeasureT-loop
 node-μ-loop rows change tables tree left partial w k size entries base s₀ j₀ s j = entries - j

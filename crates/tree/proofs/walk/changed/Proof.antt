@@ -2,6 +2,7 @@
 use mathlib.Core.Path.{ap, _∙_}
 use lib.Bits.{bitXor}
 use borrow.Author.Needs.{needs}
+use Rattle.word.specs.Words.{wordOf}
 use Rattle.tree.proofs.walk.changed.Statement.{statement}
 use Rattle.tree.proofs.walk.changed.Tie as tie
 
@@ -21,7 +22,7 @@ xor-requires : tie.Need-xor-requires
 xor-requires c κs = search needs
 
 returns : tie.Need-returns
-returns c = c .xor .ensures ∙ ap (bitXor (c .before .before .before .args .w)) (c .before .copies .ensures)
+returns c = c .xor .ensures ∙ ap (bitXor (wordOf (c .before .before .before .args .w))) (c .before .copies .ensures)
 
 pub changed-spec : {M : Type 1} → statement M
 changed-spec =

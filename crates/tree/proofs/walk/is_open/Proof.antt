@@ -8,6 +8,7 @@ use lib.Bits.{bitAnd}
 use lib.Dec.{eqb, leb}
 use borrow.Author.Tests.{ne-eqb, le-leb}
 use borrow.Author.Needs.{needs}
+use Rattle.word.specs.Words.{wordOf}
 use Rattle.tree.proofs.walk.is_open.Statement.{statement}
 use Rattle.tree.proofs.walk.is_open.Tie as tie
 
@@ -28,7 +29,7 @@ reaches-requires c κs = search needs
 returns : tie.Need-returns
 returns c =
     let start = c .before .before in
-    ap not (c .reaches .ensures ∙ ap (leb 1) (c .before .common .ensures)) ∙ none-reached (bitAnd (start .args .w) (start .args .shut))
+    ap not (c .reaches .ensures ∙ ap (leb 1) (c .before .common .ensures)) ∙ none-reached (bitAnd (wordOf (start .args .w)) (wordOf (start .args .shut)))
 
 pub is-open-spec : {M : Type 1} → statement M
 is-open-spec = tie.close (tie.spec common-requires reaches-requires returns)

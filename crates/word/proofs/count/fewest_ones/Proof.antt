@@ -10,12 +10,12 @@ use borrow.Author.Needs.{needs}
 use borrow.Author.Tests.{eq-eqb, ne-eqb}
 use Rattle.rules.specs.Below.{leastBelow, orLess}
 use Rattle.rules.specs.Word.{unfrozen}
-use Rattle.word.specs.Words.{sizeOf, fewestOf}
+use Rattle.word.specs.Words.{wordOf, sizeOf, fewestOf}
 use Rattle.word.proofs.count.fewest_ones.Statement.{statement}
 use Rattle.word.proofs.count.fewest_ones.Tie as tie
 
 abbrev Inv-loop : tie.InvT-loop
-Inv-loop n frozen slots found₀ i₀ found i = (i ≤ slots) × (fewestOf found ≡ leastBelow i (unfrozen frozen) ones)
+Inv-loop n frozen slots found₀ i₀ found i = (i ≤ slots) × (fewestOf found ≡ leastBelow i (unfrozen (wordOf frozen)) ones)
 
 abbrev μ-loop : tie.MeasureT-loop
 μ-loop n frozen slots found₀ i₀ found i = slots - i
@@ -59,7 +59,7 @@ returns c =
     let last : c .before .loop .i ≡ 2 ^ sizeOf (c .before .before .before .args .n) =
     omega (arith, c .before .before .slots .ensures)
     in
-    c .before .loop .inv .1 ∙ ap (λ (m : ℕ). leastBelow m (unfrozen (c .before .before .before .args .frozen)) ones) last
+    c .before .loop .inv .1 ∙ ap (λ (m : ℕ). leastBelow m (unfrozen (wordOf (c .before .before .before .args .frozen))) ones) last
 
 pub fewest-ones-spec : {M : Type 1} → statement M
 fewest-ones-spec =

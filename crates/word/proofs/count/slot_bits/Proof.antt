@@ -4,7 +4,7 @@ use mathlib.Core.Path.{_≡_, sym}
 use native.Mathlib.Nat.{mod-eq-of-lt}
 use native.Mathlib.Omega.{arith}
 use lib.Pow.{pow-pos}
-use Rattle.word.specs.Words.{sizeOf}
+use Rattle.word.specs.Words.{wordOf, sizeOf}
 use Rattle.word.proofs.Shifts.{one-shifted, slots-le}
 use borrow.Author.Needs.{needs}
 use Rattle.word.proofs.count.slot_bits.Statement.{statement}
@@ -20,9 +20,11 @@ rem-result : tie.Need-rem-result
 rem-result c = rw (one-shifted _ (c .if1 .taken)) (pow-pos _)
 
 returns : tie.Need-returns
+unfolding wordOf
 returns c = rw (one-shifted _ (c .if1 .taken), c .before .slots .ensures)
 
 returns-2 : tie.Need-returns-2
+unfolding wordOf
 returns-2 c =
     let n = c .before .before .args .n in
     let whole : 64 ≡ 2 ^ sizeOf n = omega (arith, slots-le n, c .before .slots .ensures) in

@@ -2,7 +2,7 @@
 use native.Mathlib.Omega.{arith}
 use mathlib.Core.Path.{ap}
 use lib.Count.{ones}
-use Rattle.word.specs.Words.{sizeOf}
+use Rattle.word.specs.Words.{wordOf, sizeOf}
 use Rattle.laws.specs.numbers.Counts.{bits-and-ones}
 use borrow.Author.Needs.{needs}
 use Rattle.word.proofs.count.unfrozen.Statement.{statement}
@@ -27,7 +27,7 @@ sub-result c =
       c .before .before .slots .ensures,
       c .ones .ensures,
       ap ones (c .before .slot-bits .ensures),
-      bits-and-ones (sizeOf (c .before .before .before .args .n)) (c .before .before .before .args .frozen),
+      bits-and-ones (sizeOf (c .before .before .before .args .n)) (wordOf (c .before .before .before .args .frozen)),
     )
 
 returns : tie.Need-returns
@@ -37,7 +37,7 @@ returns c =
       c .before .before .slots .ensures,
       c .ones .ensures,
       ap ones (c .before .slot-bits .ensures),
-      bits-and-ones (sizeOf (c .before .before .before .args .n)) (c .before .before .before .args .frozen),
+      bits-and-ones (sizeOf (c .before .before .before .args .n)) (wordOf (c .before .before .before .args .frozen)),
     )
 
 pub unfrozen-spec : {M : Type 1} → statement M

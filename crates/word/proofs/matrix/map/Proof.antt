@@ -1,6 +1,7 @@
 -- `word::matrix::map` meets its contract, by the law of halves.
 use mathlib.Core.Path.{sym}
 use Rattle.laws.specs.code.Matrix.{codeword-halves}
+use Rattle.word.specs.Words.{wordOf}
 use borrow.Author.Needs.{needs}
 use Rattle.word.proofs.matrix.map.Statement.{statement}
 use Rattle.word.proofs.matrix.map.Tie as tie
@@ -33,6 +34,7 @@ add-result : tie.Need-add-result
 add-result c = search needs
 
 returns : tie.Need-returns
+unfolding wordOf
 returns c = rw (c .before .before .map32 .ensures, c .map322 .ensures) (sym (codeword-halves 5 _))
 
 pub map-spec : {M : Type 1} → statement M

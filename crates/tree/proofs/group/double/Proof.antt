@@ -1,29 +1,29 @@
--- `tree::group::double_words` meets its contract. Invariant: the first m words are kept, and u of them added behind.
+-- `tree::group::double` meets its contract. Invariant: the first m words are kept, and u of them added behind.
 use Prim.Native.Nat.{_-_}
 use native.Mathlib.Omega.{arith}
-use lib.Bits.{bitXor}
 use borrow.Author.Needs.{needs}
+use Rattle.tree.specs.Grouping.{stepOf}
 use Rattle.tree.proofs.tables.WordsDoubled.{Turned, turned-none, turned-next, turned-all}
-use Rattle.tree.proofs.group.double_words.Statement.{statement}
-use Rattle.tree.proofs.group.double_words.Tie as tie
+use Rattle.tree.proofs.group.double.Statement.{statement}
+use Rattle.tree.proofs.group.double.Tie as tie
 
 abbrev Inv-loop : tie.InvT-loop
-Inv-loop words₀ m column u₀ words u = Turned words₀ words m (λ w. bitXor w column) u
+Inv-loop words₀ m step u₀ words u = Turned words₀ words m (stepOf step) u
 
 abbrev μ-loop : tie.MeasureT-loop
-μ-loop words₀ m column u₀ words u = m - u
+μ-loop words₀ m step u₀ words u = m - u
 
 loop-holds : tie.Need-loop-holds Inv-loop μ-loop
 loop-holds c = turned-none
 
-mul-xor : tie.Need-mul-xor Inv-loop μ-loop
-mul-xor c = omega (arith, c .before .before .before .pre, c .before .before .before .good .0 .1)
+mul-stepped : tie.Need-mul-stepped Inv-loop μ-loop
+mul-stepped c = omega (arith, c .before .before .before .pre, c .before .before .before .good .0 .1)
 
-slice-read-xor : tie.Need-slice-read-xor Inv-loop μ-loop
-slice-read-xor c = omega (arith, c .before .before .before .before .pre, c .before .before .loop .inv .same)
+slice-read-stepped : tie.Need-slice-read-stepped Inv-loop μ-loop
+slice-read-stepped c = omega (arith, c .before .before .before .before .pre, c .before .before .loop .inv .same)
 
-xor-requires : tie.Need-xor-requires Inv-loop μ-loop
-xor-requires c κs = search needs
+stepped-requires : tie.Need-stepped-requires Inv-loop μ-loop
+stepped-requires c κs = search needs
 
 add-words : tie.Need-add-words Inv-loop μ-loop
 add-words c = omega (arith, c .before .before .before .before .before .pre, c .before .before .before .before .before .good .0 .1)
@@ -42,7 +42,7 @@ loop-less c = omega arith
 
 loop-again : tie.Need-loop-again Inv-loop μ-loop
 loop-again c =
-    turned-next (c .before .before .before .loop .inv) (c .before .before .before .before .before .pre) (c .before .before .loop-test .taken) _ (c .xor .ensures)
+    turned-next (c .before .before .before .loop .inv) (c .before .before .before .before .before .pre) (c .before .before .loop-test .taken) _ (c .stepped .ensures)
 
 same-length : tie.Need-same-length Inv-loop μ-loop
 same-length c = c .before .loop .inv .same
@@ -50,16 +50,16 @@ same-length c = c .before .loop .inv .same
 returns : tie.Need-returns Inv-loop μ-loop
 returns c = turned-all (c .before .loop .inv) (omega arith)
 
-pub double-words-spec : {M : Type 1} → statement M
-double-words-spec =
+pub double-spec : {M : Type 1} → statement M
+double-spec =
     tie.close
     (tie.spec
     Inv-loop
     μ-loop
     loop-holds
-    mul-xor
-    slice-read-xor
-    xor-requires
+    mul-stepped
+    slice-read-stepped
+    stepped-requires
     add-words
     mul-words
     slice-write-words
