@@ -4,15 +4,10 @@
 use Prim.Native.Nat.{ℕ, _^_, _<_}
 use mathlib.Core.Path.{_≡_}
 use mathlib.Core.List.{List}
-use Rattle.laws.specs.answers.OneAnswer.{one-answer}
+use Rattle.laws.specs.answers.OneAnswer.{Agreed, one-answer}
 use Rattle.rows.specs.Table.{entryAt}
 use Rattle.rows.specs.Adding.{RowsRight}
 use Rattle.rows.proofs.rows.Reads as rows
-
-module _ {K : Type 0} {A R E : K → Type 0} where
-  -- two results that meet the contract agree
-  abbrev Agreed : ((κs : K) → A κs → R κs → R κs → Type 0) → ((κs : K) → A κs → R κs → E κs → Type 0) → Type 0
-  Agreed same contract = (κs : K) (a : A κs) (r s : R κs) (v w : E κs) → contract κs a r v → contract κs a s w → same κs a r s
 
 -- at each entry of the first groups
 abbrev pub SameRows : ℕ → ℕ → List (List ℕ) → List (List ℕ) → Type 0

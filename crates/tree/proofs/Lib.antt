@@ -1,4 +1,3 @@
-pub mod tables
-pub mod nodes
+pub mod Giving
 pub mod deciding
 pub mod Unique

@@ -10,7 +10,7 @@ use Rattle.rules.specs.Folding as rules
 use Rattle.rules.specs.Walk.{fillings}
 use Rattle.rules.specs.Refusals.{isEmpty}
 use Rattle.word.specs.Words.{Held, wordAt}
-use Rattle.tree.specs.declared.group.Tree.{Tree}
+use Rattle.groups.specs.declared.Tree.{Tree}
 
 -- no group has more frozen indices than indices
 abbrev pub FewShut : List Held → Tree → Type 0

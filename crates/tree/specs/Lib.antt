@@ -1,9 +1,5 @@
-pub mod Seating
-pub mod Grouping
 pub mod Slots
 pub mod Empty
-pub mod States
-pub mod Nodes
 pub mod Reading
 pub mod Search
 pub mod Unique

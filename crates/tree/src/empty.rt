@@ -4,9 +4,9 @@ ghost use mathlib.Core.Path.{_≡_};
 ghost use Prim.Native.Nat.{ℕ, _-_, _^_, _≤_};
 ghost use lib.Count.{ones};
 ghost use Rattle.word.specs.Words.{wordOf};
-ghost use Rattle.tree.specs.Grouping.{Grouped, Shut};
+ghost use Rattle.groups.specs.Grouping.{Grouped, Shut};
 ghost use Rattle.tree.specs.Empty.{FewShut, FirstEmpty};
-use crate::group::Tree;
+use groups::Tree;
 use word::Word;
 
 // How many fillings a group has: two to the number of its unfrozen indices.

@@ -1,10 +1,6 @@
 // Decoding by the folded tree: the least word of received levels, under every folding.
 mod empty;
-mod group;
-mod seat;
 mod slot;
-mod state;
-mod walk;
 
 ghost use mathlib.Core.Path.{_≡_};
 ghost use Rattle.rules.specs.Answers.{decodeAnswer};
@@ -34,20 +30,20 @@ fn search(n: u32, levels: &[i32], frozen: Word, folding: u32, allowance: u32) ->
     requires { ⌜ Searchable n (now levels) folding ⌝ }
     ensures { λ r. ⌜ answerOf r ≡ searchAnswer n (now (levels .entry)) (wordOf frozen) folding allowance ⌝ }
 {
-    let tree = group::folded(n, folding, allowance);
-    let index = seat::seats(n, folding);
-    let shut = group::shut(&index, tree, frozen);
+    let tree = groups::folded(n, folding, allowance);
+    let index = groups::seat::seats(n, folding);
+    let shut = groups::shut(&index, tree, frozen);
     let empty = empty::first_empty(&shut, tree);
     if empty < tree.groups {
         return Answer::Refused(Refusal::NoCandidate(empty));
     }
     let mut tables = [[0u64; word::SLOTS]; 3];
     let rows = slot::rows(levels, &index, tree, &mut tables[walk::NEAR]);
-    let change = group::changes(&index, tree);
-    tables[walk::COVERED] = group::covered(&index, tree);
+    let change = groups::changes(&index, tree);
+    tables[walk::COVERED] = groups::covered(&index, tree);
     tables[walk::SHUT] = shut;
     let end = walk::walk(&rows, &change, &tables, tree);
-    if state::used_up(end, allowance as u64) {
+    if tree.allowance < end.visits {
         return Answer::Refused(Refusal::Allowance);
     }
     let d = end.word;

@@ -5,9 +5,9 @@ ghost use Prim.Native.Nat.{_+_, _*_, _^_, _<_};
 ghost use lib.ListN.{length, getD};
 ghost use Rattle.rules.specs.Level.{levelAt};
 ghost use Rattle.rules.specs.Refusals.{largest};
-ghost use Rattle.tree.specs.Grouping.{Grouped};
+ghost use Rattle.groups.specs.Grouping.{Grouped};
 ghost use Rattle.tree.specs.Slots.{SmallSeats, Levelled, GroupGives, Gives, Ranked};
-use crate::group::Tree;
+use groups::Tree;
 
 // The level at a seat.
 fn seat_level(levels: &[i32], index: &[usize; word::SLOTS], seat: usize) -> i32

@@ -20,8 +20,8 @@ use Rattle.laws.specs.seats.SeatedRow.{blockOf}
 use Rattle.laws.specs.seats.SeatWords.{seat}
 use Rattle.laws.specs.seats.Copied.{shut-ones}
 use Rattle.word.specs.Words.{Held, wordAt}
-use Rattle.tree.specs.declared.group.Tree.{Tree}
-use Rattle.tree.specs.Grouping.{Grouped, Shut}
+use Rattle.groups.specs.declared.Tree.{Tree}
+use Rattle.groups.specs.Grouping.{Grouped, Shut}
 use Rattle.tree.specs.Empty.{FewShut, FirstEmpty, isEmptyLevel}
 
 -- a list is empty where its length is 0

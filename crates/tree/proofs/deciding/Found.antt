@@ -18,14 +18,14 @@ use Rattle.laws.specs.distance.Least.{leastWord-least}
 use Rattle.laws.specs.code.Matrix.{codeword-longer}
 use Rattle.laws.specs.code.Permitted.{permitted-lt}
 use Rattle.word.specs.Words.{sizeOf, Held, wordOf}
-use Rattle.tree.specs.States.{keptOf, runningOf, stateOf}
+use Rattle.walk.specs.States.{keptOf, runningOf, stateOf}
 use Rattle.tree.specs.Empty.{firstEmpty}
 use Rattle.tree.specs.Search.{searchAnswer}
 use Rattle.tree.specs.Reading.{decodedOf}
 use Rattle.tree.specs.declared.Decoded.{Decoded}
-use Rattle.tree.specs.declared.state.Walked.{Walked}
-use Rattle.tree.proofs.nodes.Keeping.{has-best, no-best}
-use Rattle.tree.proofs.nodes.Trying.{running-state, ended-state}
+use Rattle.walk.specs.declared.state.Walked.{Walked}
+use Rattle.walk.proofs.Keeping.{has-best, no-best}
+use Rattle.walk.proofs.Trying.{running-state, ended-state}
 
 -- none by a test that picks none or some: the test passed; some: it failed, and picked that
 test-none : (t : Bool) (x : State keepBest) → none ≡ cond t none (some x) → t ≡ true

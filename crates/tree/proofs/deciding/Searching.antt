@@ -30,16 +30,16 @@ use Rattle.laws.specs.numbers.SortedLists.{mem-getD}
 use Rattle.laws.specs.rows.SortedRows.{rowOf, row-length, row-at, row-cong, entry-parts}
 use Rattle.laws.specs.walk.Allowance.{walkIn, walk-cong}
 use Rattle.word.specs.Words.{Held}
-use Rattle.tree.specs.Seating.{Seated}
-use Rattle.tree.specs.Grouping.{Grouped, Covered, Shut, Changes}
+use Rattle.groups.specs.Seating.{Seated}
+use Rattle.groups.specs.Grouping.{Grouped, Covered, Shut, Changes}
 use Rattle.rows.specs.Table.{entryAt, rowAt}
 use Rattle.tree.specs.Slots.{Levelled, Ranked, seatLevel}
-use Rattle.tree.specs.Nodes.{Tabled, rowCandidates, most, coveredIn, shutIn, nearIn}
-use Rattle.tree.specs.States.{empty}
+use Rattle.walk.specs.Nodes.{Tabled, rowCandidates, most, coveredIn, shutIn, nearIn}
+use Rattle.walk.specs.States.{empty}
 use Rattle.tree.specs.Search.{Searchable}
-use Rattle.tree.specs.declared.group.Tree.{Tree}
-use Rattle.tree.proofs.tables.SeatLoops.{index-at}
-use Rattle.tree.proofs.tables.Tabling.{size-small, all-indices, frozen-block}
+use Rattle.groups.specs.declared.Tree.{Tree}
+use Rattle.groups.proofs.SeatLoops.{index-at}
+use Rattle.groups.proofs.Tabling.{size-small, all-indices, frozen-block}
 
 module _ {levels : List ℤ} {g : Tree} (grouped : Grouped g) (given : Searchable (g .n) levels (g .folding)) {index : List ℕ}
     (seated : Seated index (g .n) (g .folding)) where

@@ -1,19 +1,20 @@
 -- `tree::search` meets its contract: the steps make what the walk asks, and the walk's end decides the answer.
 use Prim.Native.Nat.{ℕ, _^_}
-use mathlib.Core.Path.{_≡_, sym, _∙_}
-use mathlib.Core.Bool.{false}
+use mathlib.Core.Path.{_≡_, refl, sym, _∙_}
+use mathlib.Core.Bool.{Bool, true, false}
 use mathlib.Core.Option.{none, some}
 use native.Mathlib.Omega.{arith}
 use lib.Dec.{ltb}
 use lib.ListN.{length-replicate}
 use borrow.Author.Needs.{needs}
+use borrow.Author.Tests.{lt-ltb, le-ltb}
 use Rattle.rules.specs.Refusals.{largest}
 use Rattle.word.specs.Words.{wordOf}
-use Rattle.tree.specs.Seating.{Seated}
-use Rattle.tree.specs.Grouping.{Grouped}
+use Rattle.groups.specs.Seating.{Seated}
+use Rattle.groups.specs.Grouping.{Grouped}
 use Rattle.tree.specs.Empty.{firstEmpty}
 use Rattle.tree.specs.Search.{Searchable}
-use Rattle.tree.specs.declared.group.Tree.{Tree}
+use Rattle.groups.specs.declared.Tree.{Tree}
 use Rattle.tree.proofs.deciding.Emptiness.{few-shut}
 use Rattle.tree.proofs.deciding.Searching.{levelled, tables-right, walked}
 use Rattle.tree.proofs.deciding.Found.{Ends, used-up, enough, distance-fits, visits-fit, found-right, answer-seven, answer-eight, answer-found}
@@ -95,9 +96,6 @@ walk-requires c κs =
     tables-right (grouped seats) (given seats) (seated seats) _ _ (rows .rows .ensures) _ _ (covered .before .before .changes .ensures) (covered .covered .ensures)
     (shut .shut .ensures)
 
-used-up-requires : tie.Need-used-up-requires
-used-up-requires c κs = search needs
-
 -- after the walk: what was given, that every level has a candidate, and what the walk ended with
 abbrev shutting : tie.After-walk → tie.After-shut
 shutting c = c .before .before .before .before .before .before .before .before .before .before .before .before .before .before .before
@@ -120,20 +118,25 @@ ends c =
     (onto (λ folding _. Ends (tree seats .n) (wordOf (begun c .args .frozen)) folding (tree seats .allowance) (begun c .args .levels .now) (c .walk .result)) (same-folding seats) (same-n seats)
     (c .walk .ensures ∙ walked (grouped seats) (given seats) (seated seats) _ _ rows _ _ (shutting c .shut .ensures)))
 
+-- the tree's allowance is the one that was given
+as-given : (c : tie.After-walk) (t : Bool) → ltb (tree (shutting c .before .before) .allowance) (c .walk .result .visits) ≡ t
+    → ltb (begun c .args .allowance) (c .walk .result .visits) ≡ t
+as-given c t = onto (λ allowance visits. ltb allowance visits ≡ t) (same-allowance (shutting c .before .before)) refl
+
 returns-2 : tie.Need-returns-2
 returns-2 c =
-    let w = c .before .before in
+    let w = c .before .before .before in
     let given = begun w .args in
     answer-eight _ _ _ _ _ (candidates w)
-    (used-up (given .n) (wordOf (given .frozen)) (given .folding) (given .allowance) (given .levels .now) (w .walk .result) (ends w) (sym (c .before .used-up .ensures) ∙ c .if2 .taken))
+    (used-up (given .n) (wordOf (given .frozen)) (given .folding) (given .allowance) (given .levels .now) (w .walk .result) (ends w) (as-given w true (lt-ltb _ _ (c .if2 .taken))))
 
 -- a walk within its allowance
-within : (c : tie.Else2) → ltb (begun (c .before .before) .args .allowance) (c .before .before .walk .result .visits) ≡ false
-within c = sym (c .before .used-up .ensures) ∙ c .if2 .left
+within : (c : tie.Else2) → ltb (begun (c .before .before .before) .args .allowance) (c .before .before .before .walk .result .visits) ≡ false
+within c = as-given (c .before .before .before) false (le-ltb _ _ (c .if2 .left))
 
 cast-distance : tie.Need-cast-distance
 cast-distance c =
-    let w = c .before .before .before in
+    let w = c .before .before .before .before in
     let given = begun w .args in
     let fits =
     distance-fits (given .n) (wordOf (given .frozen)) (given .folding) (given .allowance) (given .levels .now) (w .walk .result) (ends w) (within (c .before))
@@ -142,7 +145,7 @@ cast-distance c =
 
 cast-visits : tie.Need-cast-visits
 cast-visits c =
-    let w = c .before .before .before .before in
+    let w = c .before .before .before .before .before in
     let given = begun w .args in
     let fits =
     visits-fit (given .n) (wordOf (given .frozen)) (given .folding) (given .allowance) (given .levels .now) (w .walk .result) (ends w)
@@ -158,7 +161,7 @@ map-requires c κs = search needs
 
 returns-3 : tie.Need-returns-3
 returns-3 c =
-    let w = c .before .before .before .before .before .before in
+    let w = c .before .before .before .before .before .before .before in
     let given = begun w .args in
     let on = within (c .before .before .before .before) in
     answer-found _ _ _ _ _ (candidates w)
@@ -182,7 +185,6 @@ search-spec =
     array-set-from-tables
     array-set-from-tables-2
     walk-requires
-    used-up-requires
     returns-2
     cast-distance
     cast-visits

@@ -2,7 +2,7 @@
 use Prim.Native.Nat.{_-_}
 use mathlib.Core.Path.{_≡_}
 use native.Mathlib.Omega.{arith}
-use Rattle.tree.proofs.tables.Tabling.{size-small, few-groups}
+use Rattle.groups.proofs.Tabling.{size-small, few-groups}
 use Rattle.tree.proofs.deciding.Emptiness.{Passed, passed-none, passed-next, found-empty, found-none}
 use Rattle.tree.proofs.empty.first_empty.Statement.{statement}
 use Rattle.tree.proofs.empty.first_empty.Tie as tie

@@ -8,8 +8,8 @@ use lib.IntN.{ℤ}
 use lib.ListN.{length, length-set}
 use Rattle.rules.specs.Refusals.{largest}
 use Rattle.tree.specs.Slots.{Levelled, Gives}
-use Rattle.tree.proofs.tables.Tabling.{few-groups}
-use Rattle.tree.proofs.tables.Giving.{later-seats, all-none, all-next}
+use Rattle.groups.proofs.Tabling.{few-groups}
+use Rattle.tree.proofs.Giving.{later-seats, all-none, all-next}
 use Rattle.tree.proofs.slot.gives.Statement.{statement}
 use Rattle.tree.proofs.slot.gives.Tie as tie
 

@@ -9,7 +9,7 @@ use mir.Syntax.{w32}
 use mir.ValLaws.{toZ-ofZ}
 use borrow.Author.Needs.{needs, sfits-of}
 use Rattle.tree.specs.Slots.{GroupGives, seatLevel}
-use Rattle.tree.proofs.tables.Giving.{gives-none, gives-next, near-small}
+use Rattle.tree.proofs.Giving.{gives-none, gives-next, near-small}
 use Rattle.tree.proofs.slot.group_gives.Statement.{statement}
 use Rattle.tree.proofs.slot.group_gives.Tie as tie
 

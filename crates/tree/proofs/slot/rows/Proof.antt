@@ -1,7 +1,7 @@
 -- `tree::slot::rows` meets its contract.
-use Rattle.tree.proofs.tables.Giving.{small-none, ranked}
+use Rattle.tree.proofs.Giving.{small-none, ranked}
 use native.Mathlib.Omega.{arith}
-use Rattle.tree.proofs.tables.Tabling.{shape}
+use Rattle.groups.proofs.Tabling.{shape}
 use Rattle.tree.proofs.slot.rows.Statement.{statement}
 use Rattle.tree.proofs.slot.rows.Tie as tie
 

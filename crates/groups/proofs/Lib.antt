@@ -1,0 +1,9 @@
+pub mod Widening
+pub mod WideningBy
+pub mod SeatLoops
+pub mod GroupSizes
+pub mod Tabling
+pub mod WordsDoubled
+pub mod Changing
+pub mod Covering
+pub mod Unique
