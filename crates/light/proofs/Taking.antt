@@ -17,11 +17,12 @@ use Rattle.rules.specs.Sample.{levelOf}
 use Rattle.rules.specs.Assembling.{Assembler, Reading, single, pair, erased, firstWithout, fillSlot, fillSlots, slotsNeeded}
 use Rattle.rules.specs.Answers.{orNotFinite, levelAnswer, takeAnswer, takeLeft}
 use Rattle.refusal.specs.declared.Refusal.the-variants as refusal
-use Rattle.light.specs.Values.{quantisedOf, assemblerOf, Hands}
+use Rattle.sample.specs.Steps.{quantisedOf}
+use Rattle.light.specs.Values.{assemblerOf, Hands}
 use Rattle.light.specs.Steps.{isWrong, Fills, Takes}
 use Rattle.light.specs.declared.Assembler as code
 use Rattle.light.specs.declared.Handed.{Handed}
-use Rattle.light.specs.declared.Quantised.the-variants.{Level, NotFinite}
+use Rattle.sample.specs.declared.Quantised.the-variants.{Level, NotFinite}
 use Rattle.light.specs.declared.Verdict.the-variants.{Done, Refused}
 
 -- a slot that the code filled with the level z, read back from its bits

@@ -2,14 +2,10 @@
 -- The contracts are those of src/ themselves, as the check reads them: a weaker one has no such theorem.
 use denote.Ref.{now}
 use Rattle.laws.specs.answers.OneAnswer.{OneResult, OneOutcome}
-use Rattle.light.specs.Unique.{one-level, one-start, one-taken, one-given}
-use Rattle.light.proofs.level.Reads as level
+use Rattle.light.specs.Unique.{one-start, one-taken, one-given}
 use Rattle.light.proofs.Assembler.new.Reads as new
 use Rattle.light.proofs.Assembler.take.Reads as take
 use Rattle.light.proofs.Assembler.give.Reads as give
-
-pub level-unique : OneResult level.Learnt
-level-unique κs a r s v w p q = one-level _ r s p q
 
 pub new-unique : OneResult new.Learnt
 new-unique κs a r s v w p q = one-start _ r s p q

@@ -1,36 +1,16 @@
--- What the private steps promise: from a sample to its level, and taking a reading.
-use Prim.Native.Nat.{ℕ, _+_, _*_, _^_}
+-- What the private steps of taking a reading promise.
+use Prim.Native.Nat.{ℕ, _+_, _^_}
 use mathlib.Core.Path.{_≡_}
-use mathlib.Core.Bool.{Bool, false, _||_}
+use mathlib.Core.Bool.{Bool, _||_}
 use mathlib.Core.List.{[], _∷_}
-use lib.Dec.{T, leb, ltb}
+use lib.Dec.{ltb}
 use lib.IntN.{ℤ}
 use lib.ListN.{set}
-use lib.Ieee.{Float, nan, inf, fin, binary32, up, down, fits}
-use Rattle.rules.specs.Sample.{nearestWhole, levelOf}
 use Rattle.rules.specs.Assembling as rules
 use Rattle.rules.specs.Refusals.{answer, left, isWrongSize, notFinite}
 use Rattle.light.specs.Values.{Hands}
 use Rattle.light.specs.declared.Assembler.{Assembler}
 use Rattle.light.specs.declared.Handed.{Handed}
-
--- x is a number of magnitude at most k
-abbrev pub within : ℕ → Float → Bool
-within k nan = false
-within k (inf s) = false
-within k (fin s m e) = leb (m * up e) (k * down e)
-
--- the whole number nearest to the magnitude of x
-unfoldable pub wholeOf : Float → ℕ
-wholeOf nan = 0
-wholeOf (inf s) = 0
-wholeOf (fin s m e) = nearestWhole (m * up e) (down e)
-
--- r has the level of s, and lies within the magnitude k
-pub record Near (k : ℕ) (s r : Float) : Type 0 where
-  pub same : levelOf r ≡ levelOf s
-  pub held : T (fits binary32 r)
-  pub inside : T (within k r)
 
 -- an assembler of this n with so many slots filled is refused
 abbrev pub isWrong : ℕ → ℕ → Bool

@@ -3,28 +3,19 @@ use Prim.Native.Nat.{ℕ}
 use mathlib.Core.Path.{_≡_, refl, ap}
 use mathlib.Core.List.{List}
 use lib.IntN.{ℤ}
-use lib.Ieee.{Float}
 use Rattle.rules.specs.Assembling as rules
-use Rattle.rules.specs.Answers.{levelAnswer, takeAnswer, takeLeft}
+use Rattle.rules.specs.Answers.{takeAnswer, takeLeft}
 use Rattle.refusal.specs.declared.Refusal.{Refusal}
 use Rattle.refusal.specs.Number.{refusalOf}
 use Rattle.refusal.specs.Unique.{refusal-injective}
 use Rattle.laws.specs.answers.OneAnswer.{one-answer}
-use Rattle.light.specs.Values.{quantisedOf, assemblerOf, answerOf, Hands, Starts, Gives}
-use Rattle.light.specs.declared.Quantised.{Quantised}
-use Rattle.light.specs.declared.Quantised.the-variants.{Level, NotFinite}
+use Rattle.light.specs.Values.{assemblerOf, answerOf, Hands, Starts, Gives}
 use Rattle.light.specs.declared.Verdict.{Verdict}
 use Rattle.light.specs.declared.Verdict.the-variants.{Done, Refused}
 use Rattle.light.specs.declared.Assembler.{Assembler}
 use Rattle.light.specs.declared.Handed.{Handed}
 
 -- ---- each reading of a value is one to one
-
-quantised-injective : (q r : Quantised) → quantisedOf q ≡ quantisedOf r → q ≡ r
-quantised-injective (Level y) (Level z) e = cc
-quantised-injective (Level y) NotFinite e = cc
-quantised-injective NotFinite (Level z) e = cc
-quantised-injective NotFinite NotFinite e = refl
 
 assembler-injective : (a b : Assembler) → assemblerOf a ≡ assemblerOf b → a ≡ b
 assembler-injective a b e = ap back e
@@ -46,10 +37,6 @@ handed-equal : (q r : Handed) → q .verdict ≡ r .verdict → q .assembler ≡
 handed-equal q r v a = λ i. record { verdict = v i; assembler = a i }
 
 -- ---- each contract has one result
-
--- `level`
-pub one-level : (s : Float) (q r : Quantised) → quantisedOf q ≡ levelAnswer s → quantisedOf r ≡ levelAnswer s → q ≡ r
-one-level s q r c d = quantised-injective q r (one-answer c d)
 
 -- `Assembler::new`
 pub one-start : (n : ℕ) (q r : Handed) → Starts n q → Starts n r → q ≡ r

@@ -1,25 +1,18 @@
 -- How the values of this crate read as those of the rules. The contracts speak through these definitions.
 use Prim.Native.Nat.{ℕ}
 use mathlib.Core.Path.{_≡_}
-use mathlib.Core.List.{List, [], _∷_}
+use mathlib.Core.List.{List}
 use lib.IntN.{ℤ}
 use Rattle.rules.specs.Assembling as rules
 use Rattle.rules.specs.Refusals.{Answer, refused, done}
 use Rattle.rules.specs.Answers.{newAnswer, giveAnswer, giveLeft}
 use Rattle.refusal.specs.Number.{refusalOf}
-use Rattle.light.specs.declared.Quantised.{Quantised}
-use Rattle.light.specs.declared.Quantised.the-variants.{Level, NotFinite}
 use Rattle.light.specs.declared.Reading.{Reading}
 use Rattle.light.specs.declared.Reading.the-variants.{Single, Pair, Erased}
 use Rattle.light.specs.declared.Verdict.{Verdict}
 use Rattle.light.specs.declared.Verdict.the-variants.{Done, Refused}
 use Rattle.light.specs.declared.Assembler.{Assembler}
 use Rattle.light.specs.declared.Handed.{Handed}
-
--- the level, or refusal 11, which names sample 0
-abbrev pub quantisedOf : Quantised → Answer ℤ
-quantisedOf (Level z) = done z
-quantisedOf NotFinite = refused (record { number = 11; values = 0 ∷ [] })
 
 -- the reading
 abbrev pub readingOf : Reading → rules.Reading

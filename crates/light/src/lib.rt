@@ -1,14 +1,13 @@
-// From light to levels: the level of a sample, readings, and the assembler of one block.
+// From light to levels: readings, and the assembler of one block.
 ghost use mathlib.Core.Path.{_≡_};
 ghost use Prim.Native.Nat.{_+_, _≤_, _<_};
 ghost use lib.ListN.{length, take};
 ghost use Rattle.rules.specs.Assembling as rules;
-ghost use Rattle.rules.specs.Answers.{levelAnswer, takeAnswer, takeLeft};
-ghost use Rattle.light.specs.Values.{quantisedOf, readingOf, assemblerOf, room, Hands, Starts, Gives};
+ghost use Rattle.rules.specs.Answers.{takeAnswer, takeLeft};
+ghost use Rattle.light.specs.Values.{readingOf, assemblerOf, room, Hands, Starts, Gives};
 ghost use Rattle.light.specs.Steps.{isWrong, Fills, Takes};
 use refusal::Refusal;
-
-mod sample; // sample.rt: the steps from a sample to its level
+use sample::Quantised;
 
 // N at the largest n: how many levels an assembler has room for.
 const ROOM: usize = 64;
@@ -24,12 +23,6 @@ pub enum Reading {
     Single(f32),
     Pair(Pair),
     Erased,
-}
-
-// What becomes of a sample: its level, or refusal 11 for NaN and infinities.
-pub enum Quantised {
-    Level(i32),
-    NotFinite,
 }
 
 // What a call that can be refused answers.
@@ -49,21 +42,6 @@ pub struct Assembler {
 pub struct Handed {
     pub verdict: Verdict,
     pub assembler: Assembler,
-}
-
-// The level of a sample; refusal 11.
-pub fn level(s: f32) -> Quantised
-    ensures { λ r. ⌜ quantisedOf r ≡ levelAnswer s ⌝ }
-{
-    if sample::is_finite(s) {
-        let x = sample::near(s);
-        let size = level::clipped(sample::nearest(x * sample::SCALE));
-        if x < 0.0 {
-            return Quantised::Level(-size);
-        }
-        return Quantised::Level(size);
-    }
-    Quantised::NotFinite
 }
 
 // Whether an assembler of this n and so many slots filled is refused.
@@ -160,7 +138,7 @@ impl Assembler {
         requires { ⌜ self .filled < room ⌝ }
         ensures { λ r. ⌜ Takes (assemblerOf self) (rules.single s) r ⌝ }
     {
-        match level(s) {
+        match sample::level(s) {
             Quantised::Level(z) => self.fill(z).done(),
             Quantised::NotFinite => self.refused(Refusal::NotFinite(0)),
         }
@@ -171,9 +149,9 @@ impl Assembler {
         requires { ⌜ self .filled + 1 < room ⌝ }
         ensures { λ r. ⌜ Takes (assemblerOf self) (rules.pair (p .«in_phase») (p .quadrature)) r ⌝ }
     {
-        match level(p.in_phase) {
+        match sample::level(p.in_phase) {
             Quantised::NotFinite => self.refused(Refusal::NotFinite(0)),
-            Quantised::Level(first) => match level(p.quadrature) {
+            Quantised::Level(first) => match sample::level(p.quadrature) {
                 Quantised::NotFinite => self.refused(Refusal::NotFinite(1)),
                 Quantised::Level(second) => self.fill(first).fill(second).done(),
             },

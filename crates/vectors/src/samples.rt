@@ -2,7 +2,7 @@
 ghost use mathlib.Core.Path.{_≡_};
 ghost use lib.Ieee.{binary32, ofBits};
 use crate::line;
-use light::Quantised;
+use sample::Quantised;
 
 // The float of a bit pattern. A NaN's pattern is the one NaN.
 pub(crate) fn sample(bits: u32) -> f32
@@ -16,7 +16,7 @@ pub(crate) fn sample(bits: u32) -> f32
 
 pub(crate) fn level(line: &[u8]) {
     printing::say(b" -> ");
-    match light::level(sample(line::small(line, 0))) {
+    match sample::level(sample(line::small(line, 0))) {
         Quantised::Level(z) => printing::level(z),
         Quantised::NotFinite => printing::say(b"not finite"),
     }

@@ -3,7 +3,8 @@ use mathlib.Core.Path.{sym, ap, _∙_}
 use native.Mathlib.Omega.{arith}
 use borrow.Author.Needs.{needs}
 use Rattle.rules.specs.Assembling.{Assembler, fillSlot}
-use Rattle.light.specs.Values.{quantisedOf, assemblerOf}
+use Rattle.sample.specs.Steps.{quantisedOf}
+use Rattle.light.specs.Values.{assemblerOf}
 use Rattle.light.proofs.Taking.{slot-filled, first-refused, second-refused, pair-done}
 use Rattle.light.proofs.Assembler.take_pair.Statement.{statement}
 use Rattle.light.proofs.Assembler.take_pair.Tie as tie

@@ -1,7 +1,8 @@
 -- `light::Assembler::take_single` meets its contract.
 use mathlib.Core.Path.{sym, ap, _∙_}
 use borrow.Author.Needs.{needs}
-use Rattle.light.specs.Values.{quantisedOf, assemblerOf}
+use Rattle.sample.specs.Steps.{quantisedOf}
+use Rattle.light.specs.Values.{assemblerOf}
 use Rattle.light.proofs.Taking.{slot-filled, single-done, single-refused}
 use Rattle.light.proofs.Assembler.take_single.Statement.{statement}
 use Rattle.light.proofs.Assembler.take_single.Tie as tie

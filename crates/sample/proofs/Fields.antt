@@ -15,7 +15,7 @@ use lib.Ieee.Fits.{down-pos}
 use lib.Ieee.Nearest.{closest-same}
 use Rattle.rules.specs.Sample.{nearestWhole}
 use Rattle.laws.specs.light.Nearest.{nearest-whole, nearest-only}
-use Rattle.light.specs.Steps.{within, wholeOf}
+use Rattle.sample.specs.Steps.{within, wholeOf}
 
 -- ---- a float that is ±a / c
 

@@ -1,12 +1,12 @@
--- `light::sample::is_finite` meets its contract: only NaN differs from itself, and the two infinities are told by comparison.
+-- `sample::is_finite` meets its contract: only NaN differs from itself, and the two infinities are told by comparison.
 use mathlib.Core.Path.{_≡_, refl, sym, ap, subst}
 use mathlib.Core.Bool.{true, false, true≢false}
 use lib.Dec.{T}
 use lib.Ieee.{Float, nan, inf, fin, eq, ne, neg, ofBits, nanBits}
 use lib.Ieee.Compare.{differs-from-itself}
 use lib.Ieee.Scale.{finite}
-use Rattle.light.proofs.sample.is_finite.Statement.{statement}
-use Rattle.light.proofs.sample.is_finite.Tie as tie
+use Rattle.sample.proofs.is_finite.Statement.{statement}
+use Rattle.sample.proofs.is_finite.Tie as tie
 
 not-finite : (s : Float) → eq s (inf false) ≡ true → false ≡ finite s
 unfolding eq

@@ -1,4 +1,4 @@
--- `light::level` meets its contract: the clipped whole number nearest to the exact product, with the sample's sign.
+-- `sample::level` meets its contract: the clipped whole number nearest to the exact product, with the sample's sign.
 use Prim.Native.Nat.{ℕ, zero, suc, _≤_, min}
 use mathlib.Core.Path.{_≡_, refl, sym, ap, subst, _∙_}
 use mathlib.Core.Bool.{Bool, true, false, true≢false}
@@ -16,12 +16,12 @@ use Rattle.rules.specs.Level.{limit}
 use Rattle.rules.specs.Sample.{signed, levelOf}
 use Rattle.rules.specs.Refusals.{done}
 use Rattle.rules.specs.Answers.{levelAnswer}
-use Rattle.light.specs.Values.{quantisedOf}
-use Rattle.light.specs.Steps.{wholeOf, Near}
-use Rattle.light.specs.declared.Quantised.the-variants.{NotFinite}
-use Rattle.light.proofs.Scaled.{scale, scaled-within, scaled-level}
-use Rattle.light.proofs.level.Statement.{statement}
-use Rattle.light.proofs.level.Tie as tie
+use Rattle.sample.specs.Steps.{quantisedOf}
+use Rattle.sample.specs.Steps.{wholeOf, Near}
+use Rattle.sample.specs.declared.Quantised.the-variants.{NotFinite}
+use Rattle.sample.proofs.Scaled.{scale, scaled-within, scaled-level}
+use Rattle.sample.proofs.level.Statement.{statement}
+use Rattle.sample.proofs.level.Tie as tie
 
 fits : (s : Bool) (q : ℕ) → q ≤ limit → SFits w32 (signed s q)
 fits false q h = record { sfits = omega arith }

@@ -1,20 +1,27 @@
-// The steps from a sample to its level before the clip: NaN and infinities told apart, a large magnitude clipped first, and the
-// whole number nearest to the scaled sample worked out from its bits.
+// The level of a sample: NaN and infinities told apart, a large magnitude clipped first, the whole number nearest to the scaled
+// sample worked out from its bits, and the clip.
 ghost use mathlib.Core.Path.{_≡_};
 ghost use Prim.Native.Nat.{_<_};
 ghost use lib.Dec.{T};
 ghost use lib.Ieee.Scale.{finite};
 ghost use Rattle.rules.specs.Sample.{nearestWhole};
-ghost use Rattle.light.specs.Steps.{within, wholeOf, Near};
+ghost use Rattle.rules.specs.Answers.{levelAnswer};
+ghost use Rattle.sample.specs.Steps.{within, wholeOf, Near, quantisedOf};
+
+// What becomes of a sample: its level, or refusal 11 for NaN and infinities.
+pub enum Quantised {
+    Level(i32),
+    NotFinite,
+}
 
 // How many levels one unit of light has.
-pub(crate) const SCALE: f32 = 256.0;
+const SCALE: f32 = 256.0;
 
 // Every sample past this magnitude has a level past the limit: 8 times SCALE is 2048.
 const FAR: f32 = 8.0;
 
 // Whether a sample is neither NaN nor an infinity.
-pub(crate) fn is_finite(s: f32) -> bool
+fn is_finite(s: f32) -> bool
     ensures { λ r. ⌜ r ≡ finite s ⌝ }
 {
     if s != s {
@@ -28,7 +35,7 @@ pub(crate) fn is_finite(s: f32) -> bool
 }
 
 // A large magnitude clipped first, at FAR.
-pub(crate) fn near(s: f32) -> f32
+fn near(s: f32) -> f32
     requires { ⌜ T (finite s) ⌝ }
     ensures { λ r. ⌜ Near 8 s r ⌝ }
 {
@@ -59,7 +66,7 @@ fn nearest_whole(a: u32, b: u32) -> u32
 
 // The whole number nearest to the magnitude of x, from the bits of x. An exponent below 126 is a magnitude below 1/2; else
 // the 24 digits are divided by two to the number of digits behind the point.
-pub(crate) fn nearest(x: f32) -> u32
+fn nearest(x: f32) -> u32
     requires { ⌜ T (within 2048 x) ⌝ }
     ensures { λ r. ⌜ r ≡ wholeOf x ⌝ }
 {
@@ -70,4 +77,19 @@ pub(crate) fn nearest(x: f32) -> u32
     }
     let digits = 0x80_0000 + (bits & 0x7f_ffff);
     nearest_whole(digits, 1u32 << (150 - exponent))
+}
+
+// The level of a sample; refusal 11.
+pub fn level(s: f32) -> Quantised
+    ensures { λ r. ⌜ quantisedOf r ≡ levelAnswer s ⌝ }
+{
+    if is_finite(s) {
+        let x = near(s);
+        let size = level::clipped(nearest(x * SCALE));
+        if x < 0.0 {
+            return Quantised::Level(-size);
+        }
+        return Quantised::Level(size);
+    }
+    Quantised::NotFinite
 }

@@ -1,4 +1,4 @@
--- `light::sample::nearest_whole` meets its contract: the rest against what is missing to b is twice the rest against b.
+-- `sample::nearest_whole` meets its contract: the rest against what is missing to b is twice the rest against b.
 use Prim.Native.Nat.{ℕ, _+_, _*_, _/_, _%_, _<_, compare, Ordering, Ordering·lt, Ordering·eq, Ordering·gt}
 use mathlib.Core.Path.{_≡_, refl}
 use native.Mathlib.Nat.{mod-lt, div-le-self}
@@ -8,8 +8,8 @@ use borrow.Author.Needs.{needs}
 use lib.Ieee.{nearest}
 use Rattle.rules.specs.Sample.{nearestWhole}
 use Rattle.laws.specs.light.Nearest.{Compared, compared}
-use Rattle.light.proofs.sample.nearest_whole.Statement.{statement}
-use Rattle.light.proofs.sample.nearest_whole.Tie as tie
+use Rattle.sample.proofs.nearest_whole.Statement.{statement}
+use Rattle.sample.proofs.nearest_whole.Tie as tie
 
 less : (q x b : ℕ) (o : Ordering) → Compared o x b → x < b → q ≡ nearest q o
 less q x b Ordering·lt c h = refl

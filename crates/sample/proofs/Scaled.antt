@@ -14,9 +14,9 @@ use lib.Ieee.Exact.{HasValue, round-exact}
 use lib.Ieee.Fits.{down-pos}
 use Rattle.rules.specs.Level.{limit}
 use Rattle.rules.specs.Sample.{nearestWhole, signed, unclipped, levelOf}
-use Rattle.light.specs.Steps.{within, wholeOf}
-use Rattle.light.proofs.Clip.{clip-signed}
-use Rattle.light.proofs.Fields.{units, exponent, digits, digits-lt, value, exponent-le, whole-of-value, value-within, nearest-zero}
+use Rattle.sample.specs.Steps.{within, wholeOf}
+use Rattle.sample.proofs.Clip.{clip-signed}
+use Rattle.sample.proofs.Fields.{units, exponent, digits, digits-lt, value, exponent-le, whole-of-value, value-within, nearest-zero}
 
 -- 256.0
 abbrev pub scale : Float

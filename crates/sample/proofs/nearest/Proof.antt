@@ -1,4 +1,4 @@
--- `light::sample::nearest` meets its contract: the float is what the exponent's field and the digits of its bits say.
+-- `sample::nearest` meets its contract: the float is what the exponent's field and the digits of its bits say.
 use Prim.Native.Nat.{ℕ, _+_, _-_, _*_, _%_, _^_, _≤_}
 use mathlib.Core.Path.{_≡_, sym, ap, subst, _∙_}
 use mathlib.Core.Bool.{not}
@@ -9,10 +9,10 @@ use lib.Pow.{pow-pos}
 use lib.Ieee.{Float, fin, binary32, fits, isNan}
 use Rattle.rules.specs.Sample.{nearestWhole}
 use Rattle.laws.specs.numbers.Bits.{power-shifted}
-use Rattle.light.specs.Steps.{within}
-use Rattle.light.proofs.Fields.{exponent, digits, digits-lt, exponent-le, below-half, from-half}
-use Rattle.light.proofs.sample.nearest.Statement.{statement}
-use Rattle.light.proofs.sample.nearest.Tie as tie
+use Rattle.sample.specs.Steps.{within}
+use Rattle.sample.proofs.Fields.{exponent, digits, digits-lt, exponent-le, below-half, from-half}
+use Rattle.sample.proofs.nearest.Statement.{statement}
+use Rattle.sample.proofs.nearest.Tie as tie
 
 no-nan : (k : ℕ) (x : Float) → T (within k x) → T (not (isNan x))
 unfolding isNan

@@ -1,4 +1,4 @@
--- `light::sample::near` meets its contract: past 8 or -8 both samples are clipped, and else the magnitude is at most 8.
+-- `sample::near` meets its contract: past 8 or -8 both samples are clipped, and else the magnitude is at most 8.
 use Prim.Native.Nat.{ℕ, _*_, _≤_, _<_}
 use mathlib.Core.Path.{_≡_, refl, sym, subst, _∙_}
 use mathlib.Core.Bool.{Bool, true, false, true≢false}
@@ -9,10 +9,10 @@ use lib.IntN.{ℤ, pos}
 use lib.Dec.{T, le→leb}
 use lib.Ieee.{Float, fin, binary32, up, down, lt, neg, fits, ofBits}
 use lib.Ieee.Scale.{finite}
-use Rattle.light.specs.Steps.{Near}
-use Rattle.light.proofs.Clip.{far-level}
-use Rattle.light.proofs.sample.near.Statement.{statement}
-use Rattle.light.proofs.sample.near.Tie as tie
+use Rattle.sample.specs.Steps.{Near}
+use Rattle.sample.proofs.Clip.{far-level}
+use Rattle.sample.proofs.near.Statement.{statement}
+use Rattle.sample.proofs.near.Tie as tie
 
 -- the end of the range of a sign
 abbrev far : Bool → Float

@@ -1,0 +1,4 @@
+mod Clip
+mod Fields
+mod Scaled
+pub mod Unique
