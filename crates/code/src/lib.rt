@@ -92,6 +92,6 @@ pub fn encode(code: Code, message: Word) -> Encoded
     if word::count::reaches(message, word::count::unfrozen(n, frozen)) {
         return Encoded::Refused(Refusal::Message);
     }
-    let d = word::message::spread(n, frozen, message);
-    Encoded::Words(d, word::matrix::map(d))
+    let d = message::spread(n, frozen, message);
+    Encoded::Words(d, matrix::map(d))
 }

@@ -122,7 +122,7 @@ pub fn changes(index: &[usize; word::SLOTS], tree: Tree) -> [Word; 256]
     let mut r = [word::none(); 256];
     let mut t = 0;
     while t < tree.size {
-        let column = word::matrix::map(word::place::single(index[t]));
+        let column = matrix::map(word::place::single(index[t]));
         double(&mut r, 1 << t, Step::Column(column));
         t += 1;
     }

@@ -50,9 +50,9 @@ fn search(n: u32, levels: &[i32], frozen: Word, folding: u32, allowance: u32) ->
     let distance = end.distance as u32;
     let visits = end.visits as u32;
     Answer::Found(Decoded {
-        message: word::message::gather(n, frozen, d),
+        message: message::gather(n, frozen, d),
         d,
-        x: word::matrix::map(d),
+        x: matrix::map(d),
         distance,
         visits,
     })

@@ -16,12 +16,12 @@ ghost use Rattle.word.specs.Words.{wordOf, wordAt};
 ghost use Rattle.walk.specs.States.{empty, stateOf};
 ghost use Rattle.rows.specs.Table.{entryAt};
 ghost use Rattle.walk.specs.Nodes.{Inside, Tabled, Given, rowCandidates};
-use groups::Tree;
 use crate::state::Walked;
 use crate::state::farther;
 use crate::state::keep_word;
 use crate::state::start;
 use crate::state::used_up;
+use groups::Tree;
 use word::Word;
 
 // Which of the walk's tables has what: the word that a group covers, its frozen indices, what its nearer bits cost.

@@ -14,9 +14,6 @@ use Rattle.word.proofs.less.Reads as less
 use Rattle.word.proofs.place.single.Reads as single
 use Rattle.word.proofs.place.above.Reads as above
 use Rattle.word.proofs.place.copies.Reads as copies
-use Rattle.word.proofs.matrix.map.Reads as map
-use Rattle.word.proofs.message.spread.Reads as spread
-use Rattle.word.proofs.message.gather.Reads as gather
 use Rattle.word.proofs.count.ones.Reads as ones
 use Rattle.word.proofs.count.folding_size.Reads as folding-size
 use Rattle.word.proofs.count.reaches.Reads as reaches
@@ -58,15 +55,6 @@ above-unique κs a r s v w p q = word-injective r s (one-answer p q)
 
 pub copies-unique : OneResult copies.Learnt
 copies-unique κs a r s v w p q = word-injective r s (one-answer p q)
-
-pub map-unique : OneResult map.Learnt
-map-unique κs a r s v w p q = word-injective r s (one-answer p q)
-
-pub spread-unique : OneResult spread.Learnt
-spread-unique κs a r s v w p q = word-injective r s (one-answer p q)
-
-pub gather-unique : OneResult gather.Learnt
-gather-unique κs a r s v w p q = word-injective r s (one-answer p q)
 
 pub ones-unique : OneResult ones.Learnt
 ones-unique κs a r s v w p q = one-answer p q

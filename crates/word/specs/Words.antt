@@ -1,12 +1,9 @@
 -- How contracts read a word, and what a word has room for.
 use Prim.Native.Nat.{ℕ, min}
-use mathlib.Core.Bool.{true}
 use mathlib.Core.Path.{_≡_, refl}
-use mathlib.Core.List.{List, map}
+use mathlib.Core.List.{List}
 use mathlib.Core.Option.{Option, none, some}
 use lib.ListN.{getD}
-use Rattle.rules.specs.Below.{listBelow}
-use Rattle.rules.specs.Word.{codeword}
 use Rattle.rules.specs.Refusals.{largest}
 use Rattle.word.specs.declared.count.Fewest.{Fewest}
 use Rattle.word.specs.declared.count.Fewest.the-variants.{Ones, NoIndex}
@@ -31,10 +28,6 @@ word-past = refl
 -- an n above the largest counts as the largest, so that a function of an n has an answer for every n
 abbrev pub sizeOf : ℕ → ℕ
 sizeOf n = min n largest
-
--- the codewords of all bytes, in order
-abbrev pub byteWords : List ℕ
-byteWords = map (codeword 3) (listBelow 256 (λ b. true))
 
 -- the fewest ones, or that no index is unfrozen
 abbrev pub fewestOf : Fewest → Option ℕ

@@ -1,11 +1,8 @@
 // Words with a bit for each slot of the largest block: from numbers and back, a bit, sums modulo 2, common ones and comparison;
-// below, counts, the matrix map, messages, single ones, and words moved up and copied.
+// below, counts, single ones, and words moved up and copied.
 // Every public function but `place::copies` is total, and every contract reads a word through `wordOf`.
 pub mod count;
-pub mod matrix;
-pub mod message;
 pub mod place;
-mod table;
 
 ghost use mathlib.Core.Path.{_≡_};
 ghost use Prim.Native.Nat.{_^_};

@@ -1,9 +1,9 @@
--- `word::matrix::map16` meets its contract, by the law of halves.
+-- `matrix::map16` meets its contract, by the law of halves.
 use mathlib.Core.Path.{sym}
 use Rattle.laws.specs.code.Matrix.{codeword-halves}
 use borrow.Author.Needs.{needs}
-use Rattle.word.proofs.matrix.map16.Statement.{statement}
-use Rattle.word.proofs.matrix.map16.Tie as tie
+use Rattle.matrix.proofs.map16.Statement.{statement}
+use Rattle.matrix.proofs.map16.Tie as tie
 
 cast-upper : tie.Need-cast-upper
 cast-upper c = search needs

@@ -2,15 +2,14 @@
 ghost use mathlib.Core.Bool.{cond};
 ghost use mathlib.Core.Path.{_≡_};
 ghost use Prim.Native.Nat.{_*_, _^_, _<_};
+ghost use Rattle.rules.specs.Refusals.{largest};
 ghost use Rattle.rules.specs.Word as rules;
 ghost use Rattle.word.specs.Words.{wordOf, sizeOf};
-use crate::Word;
-use crate::bit;
-use crate::slots;
+use word::Word;
 
 // A bit moved to index i.
 fn moved(b: u32, i: usize) -> u64
-    requires { ⌜ (b < 2) × (i < 64) ⌝ }
+    requires { ⌜ (b < 2) × (i < 2 ^ largest) ⌝ }
     ensures { λ r. ⌜ r ≡ b * 2 ^ i ⌝ }
 {
     (b as u64) << i
@@ -27,20 +26,20 @@ fn either(first: bool, a: usize, b: usize) -> usize
 fn turned(n: u32, frozen: Word, w: Word, packs: bool) -> Word
     ensures { λ r. ⌜ wordOf r ≡ cond packs (rules.gather (sizeOf n) (wordOf frozen) (wordOf w)) (rules.spread (sizeOf n) (wordOf frozen) (wordOf w)) ⌝ }
 {
-    let slots = slots(n);
+    let slots = word::slots(n);
     let mut r: u64 = 0;
     let mut place = 0;
     let mut i = 0;
     while i < slots {
-        if bit(frozen, i) == 0 {
+        if word::bit(frozen, i) == 0 {
             let from = either(packs, i, place);
             let to = either(packs, place, i);
-            r += moved(bit(w, from), to);
+            r += moved(word::bit(w, from), to);
             place += 1;
         }
         i += 1;
     }
-    r
+    word::of(r)
 }
 
 // The information word of a message: its bits at the unfrozen indices in turn.

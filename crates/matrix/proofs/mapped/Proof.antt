@@ -1,4 +1,4 @@
--- `word::matrix::mapped` meets its contract: the entry of the table of all bytes.
+-- `matrix::mapped` meets its contract: the entry of the table of all bytes.
 use Prim.Native.Nat.{ℕ}
 use mathlib.Core.Path.{ap, _∙_}
 use mathlib.Core.List.{List}
@@ -6,8 +6,8 @@ use lib.ListN.{getD}
 use borrow.Author.Needs.{needs}
 use Rattle.rules.specs.Word.{codeword}
 use Rattle.laws.specs.numbers.Each.{each-at}
-use Rattle.word.proofs.matrix.mapped.Statement.{statement}
-use Rattle.word.proofs.matrix.mapped.Tie as tie
+use Rattle.matrix.proofs.mapped.Statement.{statement}
+use Rattle.matrix.proofs.mapped.Tie as tie
 
 element-copy-out-result : tie.Need-element-copy-out-result
 element-copy-out-result c = search needs

@@ -1,4 +1,4 @@
--- `word::message::turned` meets its contract. Invariant: the bits of the unfrozen indices below i have been moved.
+-- `message::turned` meets its contract. Invariant: the bits of the unfrozen indices below i have been moved.
 use Prim.Native.Nat.{ℕ, _-_, _^_, _≤_, _<_}
 use mathlib.Core.Path.{_≡_, refl, _∙_, sym, ap}
 use mathlib.Core.Bool.{Bool, true, false, cond}
@@ -7,12 +7,13 @@ use native.Mathlib.Omega.{arith}
 use borrow.Author.Needs.{needs}
 use borrow.Author.Tests.{eq-eqb, ne-eqb}
 use Rattle.rules.specs.Word.{bit, spread, gather}
+use Rattle.rules.specs.Refusals.{largest}
 use Rattle.word.specs.Words.{wordOf, sizeOf}
 use Rattle.laws.specs.numbers.Bits.{bit-lt-two}
 use Rattle.word.proofs.Shifts.{slots-le}
-use Rattle.word.proofs.Moves.{Moved, movedBelow, source, target, target-next, target-later, target-small, moved-none, moved-unfrozen, moved-frozen, moved-fits}
-use Rattle.word.proofs.message.turned.Statement.{statement}
-use Rattle.word.proofs.message.turned.Tie as tie
+use Rattle.message.proofs.Moves.{Moved, movedBelow, source, target, target-next, target-later, target-small, moved-none, moved-unfrozen, moved-frozen, moved-fits}
+use Rattle.message.proofs.turned.Statement.{statement}
+use Rattle.message.proofs.turned.Tie as tie
 
 -- what has been moved, by the direction
 abbrev Turned : ℕ → ℕ → Bool → ℕ → ℕ → ℕ → Type 0
@@ -52,7 +53,7 @@ to-is : (c : tie.After-either2 Inv-loop μ-loop)
 to-is c =
     c .either2 .ensures ∙ ap (λ (p : ℕ). cond (at c .before .before .args .packs) p (at c .loop .i)) (at c .loop .inv .2 .counted)
 
-to-fits : (c : tie.After-either2 Inv-loop μ-loop) → c .either2 .result < 64
+to-fits : (c : tie.After-either2 Inv-loop μ-loop) → c .either2 .result < 2 ^ largest
 to-fits c =
     let start = at c .before .before in
     let low = target-small (start .args .packs) (wordOf (start .args .frozen)) (at c .loop .i) (omega (arith, at c .loop .inv .2 .counted, at c .loop .inv .1)) in
@@ -110,12 +111,15 @@ unfolding gather spread
 all-turned n frozen w true = refl
 all-turned n frozen w false = refl
 
+of-requires : tie.Need-of-requires Inv-loop μ-loop
+of-requires c κs = search needs
+
 returns : tie.Need-returns Inv-loop μ-loop
-unfolding wordOf
 returns c =
-    let start = c .before .before .before in
-    let last : c .before .loop .i ≡ 2 ^ sizeOf (start .args .n) = omega (arith, c .before .before .slots .ensures) in
-    c .before .loop .inv .2 .moved ∙ ap (movedBelow _ _ _) last ∙ all-turned (sizeOf (start .args .n)) (wordOf (start .args .frozen)) (wordOf (start .args .w)) (start .args .packs)
+    let done = c .before .before in
+    let start = done .before .before in
+    let last : done .loop .i ≡ 2 ^ sizeOf (start .args .n) = omega (arith, done .before .slots .ensures) in
+    c .of .ensures ∙ done .loop .inv .2 .moved ∙ ap (movedBelow _ _ _) last ∙ all-turned (sizeOf (start .args .n)) (wordOf (start .args .frozen)) (wordOf (start .args .w)) (start .args .packs)
 
 pub turned-spec : {M : Type 1} → statement M
 turned-spec =
@@ -135,4 +139,5 @@ turned-spec =
     add-i
     loop-less
     loop-again
+    of-requires
     returns)

@@ -2,14 +2,18 @@
 use Prim.Native.Nat.{ℕ, suc, _+_, _*_, _^_, _≤_, _<_}
 use mathlib.Core.Path.{_≡_, _∙_, sym, ap, ap₂, refl}
 use mathlib.Core.Bool.{Bool, true, false, cond}
-use native.Mathlib.Nat.{lt-of-lt-of-le, le-of-eq, add-zero}
+use native.Mathlib.Nat.{lt-of-lt-of-le, le-of-eq, add-zero, one-mul, mul-le-mul-right, pow-suc}
 use native.Mathlib.Numerals.{add-one}
 use native.Mathlib.Omega.{arith}
 use lib.Pow.{pow-mono}
 use Rattle.rules.specs.Below.{sumBelow, countBelow}
 use Rattle.rules.specs.Word.{unfrozen, place}
 use Rattle.laws.specs.numbers.CountBelow.{count-passing, count-failing}
-use Rattle.word.proofs.Shifts.{bit-above}
+
+-- a bit put above a word of i bits makes one of i + 1 bits
+bit-above : (w b i : ℕ) → w < 2 ^ i → b < 2 → w + b * 2 ^ i < 2 ^ suc i
+bit-above w b i low small =
+    omega (arith, mul-le-mul-right {m = b} {n = 1} (2 ^ i) (omega arith), one-mul (2 ^ i), pow-suc 2 i)
 
 -- what the bits of the unfrozen indices below m add up to, index i having the bit `value i`, moved to `to i`
 abbrev pub movedBelow : ℕ → (ℕ → ℕ) → (ℕ → ℕ) → ℕ → ℕ

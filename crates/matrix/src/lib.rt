@@ -1,10 +1,13 @@
 // The matrix map: a byte by the table of all 256 transformed bytes, a word by halves.
+mod table;
+
 ghost use mathlib.Core.Path.{_≡_};
 ghost use Rattle.rules.specs.Word.{codeword};
 ghost use Rattle.rules.specs.Refusals.{largest};
-ghost use Rattle.word.specs.Words.{wordOf, byteWords};
-use crate::Word;
+ghost use Rattle.word.specs.Words.{wordOf};
+ghost use Rattle.matrix.specs.Bytes.{byteWords};
 use crate::table::BYTES;
+use word::Word;
 
 // The codewords of all bytes, at n = 3. Naming the constant copies it, so a word's bytes are mapped by one copy, lent.
 fn bytes() -> [u8; 256]
@@ -41,12 +44,20 @@ fn map32(table: &[u8; 256], w: u32) -> u32
     (map16(table, upper) as u32) * 65536 + (map16(table, lower ^ upper) as u32)
 }
 
+// At n = 6, in the same way.
+fn map64(table: &[u8; 256], w: u64) -> u64
+    requires { ⌜ now table ≡ byteWords ⌝ }
+    ensures { λ r. ⌜ r ≡ codeword 6 w ⌝ }
+{
+    let upper = (w / 4294967296) as u32;
+    let lower = (w % 4294967296) as u32;
+    (map32(table, upper) as u64) * 4294967296 + (map32(table, lower ^ upper) as u64)
+}
+
 // The codeword of an information word, at the largest n, which serves every n.
 pub fn map(w: Word) -> Word
     ensures { λ r. ⌜ wordOf r ≡ codeword largest (wordOf w) ⌝ }
 {
     let table = bytes();
-    let upper = (w / 4294967296) as u32;
-    let lower = (w % 4294967296) as u32;
-    (map32(&table, upper) as u64) * 4294967296 + (map32(&table, lower ^ upper) as u64)
+    word::of(map64(&table, word::low(w)))
 }
