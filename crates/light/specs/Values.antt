@@ -1,10 +1,10 @@
 -- How the values of this crate read as those of the rules. The contracts speak through these definitions.
-use Prim.Native.Nat.{ℕ}
+use Prim.Native.Nat.{ℕ, _^_}
 use mathlib.Core.Path.{_≡_}
 use mathlib.Core.List.{List}
 use lib.IntN.{ℤ}
 use Rattle.rules.specs.Assembling as rules
-use Rattle.rules.specs.Refusals.{Answer, refused, done}
+use Rattle.rules.specs.Refusals.{Answer, refused, done, largest}
 use Rattle.rules.specs.Answers.{newAnswer, giveAnswer, giveLeft}
 use Rattle.refusal.specs.Number.{refusalOf}
 use Rattle.light.specs.declared.Reading.{Reading}
@@ -26,7 +26,7 @@ assemblerOf a = record { n = a .n; filled = a .filled; levels = a .levels }
 
 -- how many levels an assembler has room for
 abbrev pub room : ℕ
-room = 64
+room = 2 ^ largest
 
 -- the answer, whose success carries what stands beside the verdict
 abbrev pub answerOf : {A : Type 0} → Verdict → A → Answer A

@@ -10,7 +10,7 @@ use refusal::Refusal;
 use sample::Quantised;
 
 // N at the largest n: how many levels an assembler has room for.
-const ROOM: usize = 64;
+const ROOM: usize = word::SLOTS;
 
 // An in-phase and a quadrature sample.
 pub struct Pair {

@@ -7,6 +7,7 @@ use native.Mathlib.Decide.{ℕ-discrete}
 use native.Mathlib.Omega.{arith}
 use lib.ListN.{length, getD, set, replicate, length-set, length-append, getD-replicate, List·getD-append}
 use lib.Seq.{getD-set-same, getD-set-other, getD-at}
+use Rattle.rows.specs.Table.{rowsInAll, capacity}
 use Rattle.rows.specs.Cells.{cell, put, Shaped, Placed, Kept}
 
 module _ (table : List (List ℕ)) (start i : ℕ) (l : start % 256 + i < 256) where
@@ -28,12 +29,12 @@ module _ (table : List (List ℕ)) (start i : ℕ) (l : start % 256 + i < 256) w
   put-at v = rw (row-of, at-of)
 
 -- a new table
-pub shaped-none : Shaped (replicate 8 (replicate 256 0))
-shaped-none = record { rows = refl; entries = λ o l. ap length (getD-replicate 8 o (replicate 256 0) [] l) }
+pub shaped-none : Shaped (replicate rowsInAll (replicate 256 0))
+shaped-none = record { rows = refl; entries = λ o l. ap length (getD-replicate rowsInAll o (replicate 256 0) [] l) }
 
 module _ {table : List (List ℕ)} (s : Shaped table) (p v : ℕ) where
   -- the row that the place lies in
-  here : p < 2048 → getD (put table p v) (p / 256) [] ≡ set (getD table (p / 256) []) (p % 256) v
+  here : p < capacity → getD (put table p v) (p / 256) [] ≡ set (getD table (p / 256) []) (p % 256) v
   unfolding put
   here l = getD-set-same table (p / 256) _ [] (omega (arith, s .rows))
 
@@ -43,12 +44,12 @@ module _ {table : List (List ℕ)} (s : Shaped table) (p v : ℕ) where
   elsewhere o n = getD-set-other table (p / 256) o _ [] n
 
   -- the cell has what was stored
-  pub put-same : p < 2048 → cell (put table p v) p ≡ v
+  pub put-same : p < capacity → cell (put table p v) p ≡ v
   unfolding cell
   put-same l = rw (here l) (getD-set-same (getD table (p / 256) []) (p % 256) v 0 (omega (arith, s .entries (p / 256) (omega arith))))
 
   -- every other one is as it was
-  pub put-other : p < 2048 → (q : ℕ) → q ≢ p → cell (put table p v) q ≡ cell table q
+  pub put-other : p < capacity → (q : ℕ) → q ≢ p → cell (put table p v) q ≡ cell table q
   unfolding cell
   put-other l q n = go (ℕ-discrete (q / 256) (p / 256))
     where
@@ -57,16 +58,16 @@ module _ {table : List (List ℕ)} (s : Shaped table) (p v : ℕ) where
       go (no e) = rw (elsewhere (q / 256) e)
 
   -- and the table has its shape
-  pub put-shaped : p < 2048 → Shaped (put table p v)
+  pub put-shaped : p < capacity → Shaped (put table p v)
   unfolding put
   put-shaped l = record { rows = length-set table (p / 256) _ ∙ s .rows; entries = λ o h. go o h (ℕ-discrete o (p / 256)) }
     where
-      go : (o : ℕ) → o < 8 → Dec (o ≡ p / 256) → length (getD (put table p v) o []) ≡ 256
+      go : (o : ℕ) → o < rowsInAll → Dec (o ≡ p / 256) → length (getD (put table p v) o []) ≡ 256
       go o h (yes e) = rw (e, here l) (length-set (getD table (p / 256) []) (p % 256) v ∙ s .entries (p / 256) (omega arith))
       go o h (no e) = rw (elsewhere o e) (s .entries o h)
 
 -- a store behind a place keeps all before it
-pub kept-more : (old : List (List ℕ)) {to : List (List ℕ)} {start : ℕ} → Shaped to → Kept old start to → (p v : ℕ) → start ≤ p → p < 2048
+pub kept-more : (old : List (List ℕ)) {to : List (List ℕ)} {start : ℕ} → Shaped to → Kept old start to → (p v : ℕ) → start ≤ p → p < capacity
     → {new : List (List ℕ)} → new ≡ put to p v → Kept old start new
 kept-more old s k p v l inside e q h = rw e (put-other s p v inside q (omega arith) ∙ k q h)
 
@@ -76,7 +77,7 @@ placed-none start s = record { shaped = s; stored = λ i l. absurd (omega arith)
 
 -- one entry more
 pub placed-more : {old : List (List ℕ)} {start : ℕ} {row : List ℕ} {new : List (List ℕ)} → Placed old start row new
-    → {n : ℕ} → length row ≡ n → start + n < 2048 → (v : ℕ) → Placed old start (row ++ v ∷ []) (put new (start + n) v)
+    → {n : ℕ} → length row ≡ n → start + n < capacity → (v : ℕ) → Placed old start (row ++ v ∷ []) (put new (start + n) v)
 placed-more {old} {start} {row} {new} r {n} long inside v = record {
   shaped = put-shaped (r .shaped) (start + n) v inside;
   stored = λ i l. stored i l (ℕ-discrete i n);

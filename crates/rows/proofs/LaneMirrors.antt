@@ -6,6 +6,7 @@ use mathlib.Core.List.{List}
 use native.Mathlib.Decide.{ℕ-discrete, decLt}
 use native.Mathlib.Omega.{arith}
 use lib.ListN.{getD}
+use Rattle.rows.specs.Table.{capacity}
 use Rattle.rows.specs.Cells.{cell, put, Shaped}
 use Rattle.rows.specs.Lanes.{Lanes, laneDoubled, laneSum, Merged, Completed}
 use Rattle.rows.proofs.Cells.{put-same, put-other, put-shaped}
@@ -21,7 +22,7 @@ module _ {old : List (List ℕ)} {start m both : ℕ} {to : List (List ℕ)} {t 
   lower-same = s .same (start + t) (inl (omega arith))
 
   -- one more
-  pub completed-more : start + (m + m) ≤ 2048
+  pub completed-more : start + (m + m) ≤ capacity
       → Completed old start m both (put to (start + (m + m - 1 - t)) (both - cell to (start + t))) (t + 1)
   completed-more room = record {
     shaped = put-shaped (s .shaped) (start + (m + m - 1 - t)) _ inside;
@@ -30,7 +31,7 @@ module _ {old : List (List ℕ)} {start m both : ℕ} {to : List (List ℕ)} {t 
         ∙ s .same p (⊎-elim (λ a. inl (omega arith)) inr h);
   }
     where
-      inside : start + (m + m - 1 - t) < 2048
+      inside : start + (m + m - 1 - t) < capacity
       inside = omega arith
 
       upper : (i : ℕ) → i < t + 1 → Dec (i ≡ t) → cell (put to (start + (m + m - 1 - t)) (both - cell to (start + t))) (start + (m + m - 1 - i)) ≡ both - cell old (start + i)

@@ -10,6 +10,7 @@ use lib.Dec.{ltb}
 use lib.ListN.{getD}
 use Rattle.laws.specs.numbers.Each.{each-length, each-at}
 use Rattle.laws.specs.rows.SortedRows.{doubled}
+use Rattle.rows.specs.Table.{capacity}
 use Rattle.rows.specs.Cells.{cell, put, Shaped, Room, Kept}
 use Rattle.rows.specs.Lanes.{lane, Turned, Lanes, laneDoubled, Merged}
 use Rattle.rows.proofs.Cells.{put-same, put-other, put-shaped, kept-more}
@@ -36,7 +37,7 @@ turning-none from start m x y to = record { met = omega arith; some = omega arit
 
 module _ {from : List (List ℕ)} {start m x y : ℕ} {to : List (List ℕ)} {t a : ℕ} (s : Turning from start m x y to t a) (shaped : Shaped to) where
   -- a turn keeps its lane
-  own-turn : t < m → start + t < 2048 → {new : List (List ℕ)} {r : ℕ} → Turned from start t a x y to new r
+  own-turn : t < m → start + t < capacity → {new : List (List ℕ)} {r : ℕ} → Turned from start t a x y to new r
       → Turning from start m x y new (t + 1) r
   own-turn l inside g =
       let less = s .some in
@@ -67,7 +68,7 @@ module _ {from : List (List ℕ)} {start m x y : ℕ} {to : List (List ℕ)} {t 
       stores f i c (no e) = put-other shaped (start + t) (min p q) inside (start + i) (omega arith) ∙ s .stored i (omega arith)
 
   -- and a store outside it does too
-  past : (p v : ℕ) → p < 2048 → ((i : ℕ) → i < m → start + i ≢ p) → {new : List (List ℕ)} → new ≡ put to p v
+  past : (p v : ℕ) → p < capacity → ((i : ℕ) → i < m → start + i ≢ p) → {new : List (List ℕ)} → new ≡ put to p v
       → Turning from start m x y new t a
   past p v inside apart e =
       rw e (record {
@@ -99,7 +100,7 @@ module _ {from : List (List ℕ)} {first entries m : ℕ} {zeros ones : List ℕ
         )
 
     -- the place that it stores at
-    inside : (k : ℕ) → k < 4 → first + k * entries + t < 2048
+    inside : (k : ℕ) → k < 4 → first + k * entries + t < capacity
     inside k h = let p = lanes .place k h in omega (arith, p .inside, p .edge, lanes .room)
 
     -- one turn of each lane

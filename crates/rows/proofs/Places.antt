@@ -3,7 +3,9 @@ use Prim.Native.Nat.{ℕ, zero, suc, _+_, _*_, _%_, _^_, _≤_, _<_}
 use mathlib.Core.Path.{_≡_, refl}
 use native.Mathlib.Omega.{arith}
 use Rattle.laws.specs.numbers.Bits.{power-shifted}
+use Rattle.rows.specs.Table.{capacity}
 use Rattle.rows.specs.Adding.{Sized}
+use Rattle.rules.specs.Refusals.{largest}
 
 -- what holds at 1, 2, 4 and 8 holds at every group size
 by-size : (P : ℕ → Type 0) → P 1 → P 2 → P 4 → P 8 → {groups size : ℕ} → Sized groups size → P size
@@ -18,24 +20,24 @@ by-size P one two four eight g = rw (g .shape .2) (go (g .shape .0) (g .shape .1
 
 -- the place of group k among groups of a size
 pub record Place (size k : ℕ) : Type 0 where
-  pub start : k * 2 ^ size + 2 ^ size ≤ 2048
+  pub start : k * 2 ^ size + 2 ^ size ≤ capacity
   pub edge : k * 2 ^ size % 256 + 2 ^ size ≤ 256
-  pub seats : k * size + size ≤ 64
+  pub seats : k * size + size ≤ 2 ^ largest
 
 module _ {groups size : ℕ} (g : Sized groups size) where
   -- every group has one
   pub place : {k : ℕ} → k < groups → Place size k
   place {k} l =
-      by-size (λ (size : ℕ). groups * size ≤ 64 → Place size k) (λ h. omega arith) (λ h. omega arith) (λ h. omega arith) (λ h. omega arith) g (g .seats)
+      by-size (λ (size : ℕ). groups * size ≤ 2 ^ largest → Place size k) (λ h. omega arith) (λ h. omega arith) (λ h. omega arith) (λ h. omega arith) g (g .seats)
 
   -- slot t of group k has a seat
-  pub seat-inside : {k t : ℕ} → k < groups → t < size → k * size + t < 64
+  pub seat-inside : {k t : ℕ} → k < groups → t < size → k * size + t < 2 ^ largest
   seat-inside l h = omega (arith, place l .seats)
 
   -- there are no more groups than seats
-  pub groups-few : groups ≤ 64
+  pub groups-few : groups ≤ 2 ^ largest
   groups-few =
-      by-size (λ (size : ℕ). groups * size ≤ 64 → groups ≤ 64) (λ h. omega arith) (λ h. omega arith) (λ h. omega arith) (λ h. omega arith) g (g .seats)
+      by-size (λ (size : ℕ). groups * size ≤ 2 ^ largest → groups ≤ 2 ^ largest) (λ h. omega arith) (λ h. omega arith) (λ h. omega arith) (λ h. omega arith) g (g .seats)
 
   -- a group has one slot at least
   pub size-some : 1 ≤ size
@@ -53,7 +55,7 @@ module _ {groups size : ℕ} (g : Sized groups size) where
   pub four-sized : 2 < size → {k : ℕ} → k < groups → k % 4 ≡ 0 → Sized (k + 4) size
   four-sized few {k} l whole = record {
     shape = g .shape;
-    seats = by-size (λ (size : ℕ). 2 < size → groups * size ≤ 64 → (k + 4) * size ≤ 64) (λ n. absurd (omega arith)) (λ n. absurd (omega arith))
+    seats = by-size (λ (size : ℕ). 2 < size → groups * size ≤ 2 ^ largest → (k + 4) * size ≤ 2 ^ largest) (λ n. absurd (omega arith)) (λ n. absurd (omega arith))
         (λ n h. omega arith)
         (λ n h. omega arith)
         g

@@ -3,17 +3,18 @@ use Prim.Native.Nat.{ℕ, zero, suc, _+_, _*_, _^_, _≤_, _<_}
 use mathlib.Core.Path.{_≡_}
 use mathlib.Core.List.{List}
 use lib.ListN.{getD}
+use Rattle.rules.specs.Refusals.{largest}
 use Rattle.laws.specs.rows.SortedRows.{rowOf}
 use Rattle.rows.specs.Table.{entryAt}
 
--- groups of 1, 2, 4 or 8 slots, with 64 seats at most
+-- groups of 1, 2, 4 or 8 slots, with no more seats than the largest block has
 pub record Sized (groups size : ℕ) : Type 0 where
   pub shape : (f : ℕ) × (f ≤ 3) × (size ≡ 2 ^ f)
-  pub seats : groups * size ≤ 64
+  pub seats : groups * size ≤ 2 ^ largest
 
--- what a bit adds, at each of the 64 seats, takes 20 bits at most
+-- what a bit adds, at each seat, takes 20 bits at most
 abbrev pub Small : List ℕ → Type 0
-Small l = (i : ℕ) → i < 64 → getD l i 0 < 2 ^ 20
+Small l = (i : ℕ) → i < 2 ^ largest → getD l i 0 < 2 ^ 20
 
 -- what bit b adds in slot t of the group whose first seat is given
 abbrev pub adds : List ℕ → List ℕ → ℕ → ℕ → ℕ → ℕ

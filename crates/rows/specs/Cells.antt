@@ -1,10 +1,11 @@
--- The table as one line of 2048 cells, 8 rows of 256 each, and what stands in it while the rows are built.
+-- The table as one line of cells, rows of 256 each, and what stands in it while the rows are built.
 use Prim.Native.Nat.{ℕ, _+_, _*_, _/_, _%_, _^_, _≤_, _<_, min, max}
 use mathlib.Core.Path.{_≡_}
 use mathlib.Core.Logic.{_⊎_}
 use mathlib.Core.List.{List, []}
 use lib.ListN.{length, getD, set}
 use Rattle.laws.specs.rows.SortedRows.{rowOf}
+use Rattle.rows.specs.Table.{rowsInAll, capacity}
 use Rattle.rows.specs.Adding.{adds}
 
 -- what stands at place p
@@ -15,14 +16,14 @@ cell table p = getD (getD table (p / 256) []) (p % 256) 0
 unfoldable pub put : List (List ℕ) → ℕ → ℕ → List (List ℕ)
 put table p v = set table (p / 256) (set (getD table (p / 256) []) (p % 256) v)
 
--- 8 rows of 256
+-- so many rows of 256
 pub record Shaped (table : List (List ℕ)) : Type 0 where
-  pub rows : length table ≡ 8
-  pub entries : (o : ℕ) → o < 8 → length (getD table o []) ≡ 256
+  pub rows : length table ≡ rowsInAll
+  pub entries : (o : ℕ) → o < rowsInAll → length (getD table o []) ≡ 256
 
 -- room for n cells from `start` on, all of one row
 pub record Room (start n : ℕ) : Type 0 where
-  pub inside : start < 2048
+  pub inside : start < capacity
   pub edge : start % 256 + n ≤ 256
 
 -- the entries of slot t under what a slot's bit adds, of which bit 1 has the pattern 2 ^ t, in order

@@ -4,6 +4,15 @@ use mathlib.Core.Bool.{true}
 use mathlib.Core.List.{List, [], map}
 use lib.ListN.{getD}
 use Rattle.rules.specs.Below.{listBelow}
+use Rattle.rules.specs.Refusals.{largest}
+
+-- how many rows the table has: one for each eight seats of the largest block
+abbrev pub rowsInAll : ℕ
+rowsInAll = 2 ^ largest / 8
+
+-- and how many entries
+abbrev pub capacity : ℕ
+capacity = 256 * rowsInAll
 
 -- entry j of the row of group k
 abbrev pub entryAt : List (List ℕ) → ℕ → ℕ → ℕ → ℕ

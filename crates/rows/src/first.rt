@@ -2,8 +2,11 @@
 ghost use mathlib.Core.Path.{_≡_};
 ghost use Prim.Native.Nat.{_+_, _^_, _<_, _≤_, min, max};
 ghost use Rattle.laws.specs.rows.SortedRows.{rowOf};
+ghost use Rattle.rules.specs.Refusals.{largest};
 ghost use Rattle.rows.specs.Adding.{Sized, Small, adds};
 ghost use Rattle.rows.specs.Cells.{Shaped, Room, InOrder, Placed, Filled};
+use crate::Seats;
+use crate::Table;
 use crate::table::store;
 
 // The smaller of two.
@@ -32,8 +35,8 @@ fn in_order(x: u32, y: u32) -> Ordered
 }
 
 // The entries of both bits of slot t, in the group whose first seat is given, in order.
-fn slot_entries(zero: &[u32; 64], one: &[u32; 64], first: usize, t: usize) -> Ordered
-    requires { ⌜ (t < 2) × (first + t < 64) × Small (now zero) × Small (now one) ⌝ }
+fn slot_entries(zero: &Seats, one: &Seats, first: usize, t: usize) -> Ordered
+    requires { ⌜ (t < 2) × (first + t < 2 ^ largest) × Small (now zero) × Small (now one) ⌝ }
     ensures { λ r. ⌜ InOrder (adds (now (zero .entry)) (now (one .entry)) first) t (r .low) (r .high) ⌝ }
     ensures small { λ r. ⌜ (r .low < 2 ^ 29) × (r .high < 2 ^ 29) ⌝ }
 {
@@ -42,15 +45,9 @@ fn slot_entries(zero: &[u32; 64], one: &[u32; 64], first: usize, t: usize) -> Or
 }
 
 // The row of one slot.
-fn one_slot(
-    table: &mut [[u32; 256]; 8],
-    start: usize,
-    zero: &[u32; 64],
-    one: &[u32; 64],
-    first: usize,
-)
+fn one_slot(table: &mut Table, start: usize, zero: &Seats, one: &Seats, first: usize)
     requires { ⌜ Shaped (now table) × Room start 2 ⌝ }
-    requires { ⌜ (first + 1 ≤ 64) × Small (now zero) × Small (now one) ⌝ }
+    requires { ⌜ (first + 1 ≤ 2 ^ largest) × Small (now zero) × Small (now one) ⌝ }
     ensures { λ _. ⌜ Placed (now (table .entry)) start (rowOf (adds (now (zero .entry)) (now (one .entry)) first) 1) (now (table .exit)) ⌝ }
 {
     let own = slot_entries(zero, one, first, 0);
@@ -59,15 +56,9 @@ fn one_slot(
 }
 
 // The row of two slots: the sums of their entries. Only the two in the middle are not in order by themselves.
-fn two_slots(
-    table: &mut [[u32; 256]; 8],
-    start: usize,
-    zero: &[u32; 64],
-    one: &[u32; 64],
-    first: usize,
-)
+fn two_slots(table: &mut Table, start: usize, zero: &Seats, one: &Seats, first: usize)
     requires { ⌜ Shaped (now table) × Room start 4 ⌝ }
-    requires { ⌜ (first + 2 ≤ 64) × Small (now zero) × Small (now one) ⌝ }
+    requires { ⌜ (first + 2 ≤ 2 ^ largest) × Small (now zero) × Small (now one) ⌝ }
     ensures { λ _. ⌜ Placed (now (table .entry)) start (rowOf (adds (now (zero .entry)) (now (one .entry)) first) 2) (now (table .exit)) ⌝ }
 {
     let own = slot_entries(zero, one, first, 0);
@@ -80,16 +71,9 @@ fn two_slots(
 }
 
 // The row of a group's first slots: of its one, or else of two.
-fn first_row(
-    table: &mut [[u32; 256]; 8],
-    start: usize,
-    zero: &[u32; 64],
-    one: &[u32; 64],
-    first: usize,
-    size: usize,
-)
+fn first_row(table: &mut Table, start: usize, zero: &Seats, one: &Seats, first: usize, size: usize)
     requires { ⌜ Shaped (now table) × Room start (2 ^ min size 2) ⌝ }
-    requires { ⌜ (1 ≤ size) × (first + size ≤ 64) × Small (now zero) × Small (now one) ⌝ }
+    requires { ⌜ (1 ≤ size) × (first + size ≤ 2 ^ largest) × Small (now zero) × Small (now one) ⌝ }
     ensures { λ _. ⌜ Placed (now (table .entry)) start (rowOf (adds (now (zero .entry)) (now (one .entry)) first) (min size 2)) (now (table .exit)) ⌝ }
 {
     if size == 1 {
@@ -101,9 +85,9 @@ fn first_row(
 
 // Those rows for the groups from `group` to before `last`.
 pub(crate) fn first_rows(
-    table: &mut [[u32; 256]; 8],
-    zero: &[u32; 64],
-    one: &[u32; 64],
+    table: &mut Table,
+    zero: &Seats,
+    one: &Seats,
     group: usize,
     last: usize,
     size: usize,

@@ -7,6 +7,7 @@ ghost use Prim.Native.Nat.{ℕ, _+_, _-_, _^_, _<_, _≤_};
 ghost use lib.Dec.{ltb};
 ghost use Rattle.rows.specs.Cells.{cell, Shaped, Room};
 ghost use Rattle.rows.specs.Lanes.{Turned, Lanes, Merged, Completed};
+use crate::Table;
 use crate::first::least;
 use crate::table::entry;
 use crate::table::store;
@@ -21,8 +22,8 @@ fn less(x: u32, y: u32) -> usize
 // One step of the merging in the lane that begins at `start`: of t entries a came with bit 0, and the smaller of the two next
 // ones goes to place t. No branch goes by the data.
 fn turn(
-    from: &[[u32; 256]; 8],
-    to: &mut [[u32; 256]; 8],
+    from: &Table,
+    to: &mut Table,
     start: usize,
     t: usize,
     a: usize,
@@ -41,8 +42,8 @@ fn turn(
 
 // The lower halves of the rows with one slot more: in each lane the first m entries once with `zero` and once with `one` added.
 fn merge_lanes(
-    from: &[[u32; 256]; 8],
-    to: &mut [[u32; 256]; 8],
+    from: &Table,
+    to: &mut Table,
     first: usize,
     entries: usize,
     m: usize,
@@ -68,7 +69,7 @@ fn merge_lanes(
 
 // The upper half of a lane. A row is its own mirror image: an entry and the one as far from the other end add up to one sum,
 // since their patterns are each other's opposite. So the upper half is what is left of the lower half to that sum.
-fn mirror(to: &mut [[u32; 256]; 8], start: usize, m: usize, both: u32)
+fn mirror(to: &mut Table, start: usize, m: usize, both: u32)
     requires { ⌜ Shaped (now to) × Room start (m + m) ⌝ }
     requires { ⌜ ((i : ℕ) → i < m → cell (now to) (start + i) ≤ both) ⌝ }
     ensures { λ _. ⌜ Completed (now (to .entry)) start m both (now (to .exit)) m ⌝ }
@@ -82,8 +83,8 @@ fn mirror(to: &mut [[u32; 256]; 8], start: usize, m: usize, both: u32)
 
 // The rows with one slot more, whole.
 pub(crate) fn double_lanes(
-    from: &[[u32; 256]; 8],
-    to: &mut [[u32; 256]; 8],
+    from: &Table,
+    to: &mut Table,
     first: usize,
     entries: usize,
     m: usize,

@@ -69,7 +69,7 @@ pub(crate) fn rows(
     index: &[usize; word::SLOTS],
     tree: Tree,
     near: &mut [u64; word::SLOTS],
-) -> [[u32; 256]; 8]
+) -> rows::Table
     requires { ⌜ Grouped tree × Levelled (now levels) (now index) 0 (tree .groups * tree .size) × (length (now near) ≡ 2 ^ largest) ⌝ }
     ensures { λ r. ⌜ Ranked (now (levels .entry)) (now (index .entry)) (tree .groups) (tree .size) r (now (near .exit)) ⌝ }
 {

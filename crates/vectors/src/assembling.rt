@@ -8,7 +8,7 @@ use light::Reading;
 use light::Verdict;
 
 // Slots of the largest block.
-const ROOM: usize = 64;
+const ROOM: usize = word::SLOTS;
 
 // The assembler of a line, whose first two numbers are its n and how many slots are filled: level i + 1 at each slot i, filled or
 // not.

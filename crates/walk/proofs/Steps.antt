@@ -17,7 +17,7 @@ use Rattle.laws.specs.seats.SeatWords.{seat}
 use Rattle.laws.specs.seats.SeatedRow.{blockOf, fillingOf, isOpen, branchOf, entryCandidate}
 use Rattle.laws.specs.seats.Decided.{decided, changeOf, Filled, filled}
 use Rattle.laws.specs.seats.Copied.{change-copied}
-use Rattle.rows.specs.Table.{entryAt}
+use Rattle.rows.specs.Table.{capacity, entryAt}
 use Rattle.word.specs.Words.{Held, wordAt}
 use Rattle.walk.specs.Nodes.{Inside}
 use Rattle.groups.specs.Grouping.{GroupSize}
@@ -30,8 +30,8 @@ use Rattle.groups.proofs.GroupSizes.{by-size}
 use Rattle.groups.proofs.Tabling.{shape, size-small, all-indices, few-groups as at-most, frozen-block}
 
 -- the row of a group among the slots of the largest block is in the table
-in-table : {size : ℕ} (k : ℕ) → GroupSize size → suc k * size ≤ 2 ^ largest → k * 2 ^ size < 2048
-in-table k = by-size (λ (size : ℕ). suc k * size ≤ 2 ^ largest → k * 2 ^ size < 2048) (λ h. omega arith) (λ h. omega arith) (λ h. omega arith) (λ h. omega arith)
+in-table : {size : ℕ} (k : ℕ) → GroupSize size → suc k * size ≤ 2 ^ largest → k * 2 ^ size < capacity
+in-table k = by-size (λ (size : ℕ). suc k * size ≤ 2 ^ largest → k * 2 ^ size < capacity) (λ h. omega arith) (λ h. omega arith) (λ h. omega arith) (λ h. omega arith)
 
 module _ {rows : List (List ℕ)} {change : List Held} {tables : List (List ℕ)} {g : Tree} {k partial w : ℕ} {s : Walked}
     (given : Given rows change tables g (suc k) partial w s) where

@@ -10,7 +10,7 @@ use Rattle.laws.specs.seats.SeatWords.{seat}
 use Rattle.laws.specs.seats.SeatedRow.{blockOf, branchOf, entryCandidates}
 use Rattle.word.specs.Words.{Held, wordAt}
 use Rattle.groups.specs.Grouping.{Grouped, Covered, Shut, Changes}
-use Rattle.rows.specs.Table.{entryAt, rowAt}
+use Rattle.rows.specs.Table.{capacity, entryAt, rowAt}
 use Rattle.groups.specs.declared.Tree.{Tree}
 use Rattle.walk.specs.declared.state.Walked.{Walked}
 
@@ -21,7 +21,7 @@ most = (limit + 256) * (limit + 256)
 -- a group whose row is in the table of rows, and an entry of it
 pub record Inside (size k j : ℕ) : Type 0 where
   pub narrow : size ≤ 8
-  pub group : k * 2 ^ size < 2048
+  pub group : k * 2 ^ size < capacity
   pub entry : j < 2 ^ size
 
 -- the walk's tables: words for what each group covers and for its frozen indices, and plain numbers for what its nearer bits cost

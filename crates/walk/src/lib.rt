@@ -22,6 +22,7 @@ use crate::state::keep_word;
 use crate::state::start;
 use crate::state::used_up;
 use groups::Tree;
+use rows::Table;
 use word::Word;
 
 // Which of the walk's tables has what: the word that a group covers, its frozen indices, what its nearer bits cost.
@@ -32,7 +33,7 @@ pub const SHUT: usize = 1;
 pub const NEAR: usize = 2;
 
 // Entry j of the sorted row of group k.
-fn entry(rows: &[[u32; 256]; 8], size: usize, k: usize, j: usize) -> u32
+fn entry(rows: &Table, size: usize, k: usize, j: usize) -> u32
     requires { ⌜ Inside size k j ⌝ }
     ensures { λ r. ⌜ r ≡ entryAt (now (rows .entry)) size k j ⌝ }
 {
@@ -60,7 +61,7 @@ fn is_open(w: Word, shut: Word) -> bool
 
 // With no level left the word is kept or not; else the candidates of the next group are tried in order.
 fn node(
-    rows: &[[u32; 256]; 8],
+    rows: &Table,
     change: &[Word; 256],
     tables: &[[Word; word::SLOTS]; 3],
     tree: Tree,
@@ -105,7 +106,7 @@ fn node(
 
 // The walk from the first level, with no best word.
 pub fn walk(
-    rows: &[[u32; 256]; 8],
+    rows: &Table,
     change: &[Word; 256],
     tables: &[[Word; word::SLOTS]; 3],
     tree: Tree,
