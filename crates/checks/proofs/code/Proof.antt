@@ -24,13 +24,13 @@ returns-2 : tie.Need-returns-2
 unfolding codeVerdict codeOrder
 returns-2 c =
     let right = sym (c .before .before .before .before .wrong-size .ensures) ∙ c .before .before .before .if1 .left in
-    rw (right, mask-test _ right _ _ _ (c .before .before .slots .ensures) (c .before .reaches .ensures) ∙ c .if2 .taken)
+    rw (right, mask-test (c .before .before .before .before .before .args .n) right _ _ _ (c .before .before .slots .ensures) (c .before .reaches .ensures) ∙ c .if2 .taken)
 
 returns-3 : tie.Need-returns-3
 unfolding codeVerdict codeOrder
 returns-3 c =
     let right = sym (c .before .before .before .before .wrong-size .ensures) ∙ c .before .before .before .if1 .left in
-    rw (right, mask-test _ right _ _ _ (c .before .before .slots .ensures) (c .before .reaches .ensures) ∙ c .if2 .left)
+    rw (right, mask-test (c .before .before .before .before .before .args .n) right _ _ _ (c .before .before .slots .ensures) (c .before .reaches .ensures) ∙ c .if2 .left)
 
 pub code-spec : {M : Type 1} → statement M
 code-spec =
