@@ -1,4 +1,10 @@
 // The functions of words: bits, sums, the map, messages, counts, sizes, and words moved up and copied.
+ghost use mathlib.Core.Bool.{true};
+ghost use mathlib.Core.Path.{_≡_};
+ghost use Rattle.rules.specs.Refusals.{largest};
+ghost use Rattle.rules.specs.Word.{bit};
+ghost use Rattle.laws.specs.code.Disjoint.{Disjoint};
+ghost use Rattle.word.specs.Words.{wordOf};
 use crate::line;
 use word::Word;
 use word::count::Fewest;
@@ -30,12 +36,37 @@ fn fewest_ones(n: u32, frozen: Word) {
     }
 }
 
-// The one call that asks something of its caller: the copies must fit.
-fn copies(w: u64, b: u64) {
-    if 0 < b {
-        if w <= 0xffffffffffffffff / b {
-            came(word::place::copies(word::of(w), word::of(b)));
+// Whether the word has no one at index i, or one is right there.
+fn right_at(w: Word, i: usize, right: bool) -> bool
+    ensures { λ r. ⌜ (r ≡ true → bit (wordOf w) i ≡ 1 → right ≡ true) ⌝ }
+{
+    if word::bit(w, i) == 1 { right } else { true }
+}
+
+// Whether every index of a one of w has none of the set's bits, and every index of a one of b no other.
+fn apart(w: u64, b: u64, own: usize) -> bool
+    ensures { λ r. ⌜ (r ≡ true → Disjoint largest w b) ⌝ }
+{
+    let mut i = 0;
+    while i < word::SLOTS {
+        let common = i & own;
+        if !right_at(word::of(w), i, common == 0) {
+            return false;
         }
+        if !right_at(word::of(b), i, common == i) {
+            return false;
+        }
+        i += 1;
+    }
+    true
+}
+
+// The one call that asks something of its caller: the ones of both words must lie in disjoint index bits.
+fn copies(w: u64, b: u64, own: usize) {
+    if apart(w, b, own) {
+        came(word::place::copies(word::of(w), word::of(b)));
+    } else {
+        none();
     }
 }
 
@@ -58,7 +89,7 @@ fn called(name: usize, n: u32, i: usize, a: Word, b: Word, c: Word) {
         12 => counted(word::slots(n) as u64),
         13 => said(word::wrong_size(n)),
         14 => came(word::place::above(a, i)),
-        _ => copies(word::low(a), word::low(b)),
+        _ => copies(word::low(a), word::low(b), word::low(c) as usize),
     }
 }
 

@@ -2,7 +2,7 @@
 use Prim.Native.Nat.{ℕ, suc, _+_, _*_, _%_, _^_, _≤_, _<_}
 use mathlib.Core.Path.{_≡_, refl, sym, ap, ap₂, _∙_}
 use mathlib.Core.List.{List}
-use native.Mathlib.Nat.{suc-mul, mul-comm, mul-le-mul-right, lt-of-lt-of-le}
+use native.Mathlib.Nat.{suc-mul, mul-comm, mul-le-mul-right}
 use native.Mathlib.Omega.{arith}
 use lib.Bits.{bitAnd, bitXor}
 use lib.Count.{ones}
@@ -12,11 +12,11 @@ use lib.Pow.{pow-pos, pow-mono}
 use Rattle.rules.specs.Word.{codeword}
 use Rattle.rules.specs.Folding as rules
 use Rattle.rules.specs.Refusals.{largest}
-use Rattle.laws.specs.code.Matrix.{codeword-lt}
+use Rattle.laws.specs.code.Disjoint.{Disjoint, disjoint-longer}
 use Rattle.laws.specs.seats.SeatWords.{seat}
 use Rattle.laws.specs.seats.SeatedRow.{blockOf, fillingOf, isOpen, branchOf, entryCandidate}
 use Rattle.laws.specs.seats.Decided.{decided, changeOf, Filled, filled}
-use Rattle.laws.specs.seats.Copied.{change-copied}
+use Rattle.laws.specs.seats.Copied.{change-copied, covered-apart}
 use Rattle.rows.specs.Table.{capacity, entryAt}
 use Rattle.word.specs.Words.{Held, wordAt}
 use Rattle.walk.specs.Nodes.{Inside}
@@ -99,8 +99,11 @@ module _ {rows : List (List ℕ)} {change : List Held} {tables : List (List ℕ)
         ap₂ (λ (a b : ℕ). a * b) (given .tabled .copied k (given .begun .within)) (given .tabled .changes (e % 256) pattern-lt)
         ∙ mul-comm _ _ ∙ change-copied (g .n) (g .folding) (grouped .fits) k (e % 256) group-is (rw (← sized) pattern-lt)
 
-    pub change-fits : wordAt (coveredIn tables) k * wordAt change (e % 256) < 2 ^ (2 ^ largest)
-    change-fits = rw change-is (lt-of-lt-of-le (codeword-lt (g .n) _) (pow-mono (pow-mono {j = largest} (grouped .small))))
+    -- the ones of the two words that it multiplies lie in disjoint index bits
+    pub change-apart : Disjoint largest (wordAt (coveredIn tables) k) (wordAt change (e % 256))
+    change-apart =
+        rw (given .tabled .copied k (given .begun .within), given .tabled .changes (e % 256) pattern-lt)
+        (disjoint-longer largest (grouped .small) (covered-apart (g .n) (g .folding) (grouped .fits) k (e % 256) group-is (rw (← sized) pattern-lt)))
 
     -- the next word
     abbrev pub next : ℕ

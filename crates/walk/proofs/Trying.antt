@@ -96,13 +96,10 @@ module _ {rows : List (List ℕ)} {change : List Held} {tables : List (List ℕ)
       pub total-is : base + 1024 * (e / 256) ≡ reached (t .given) j below
       total-is = rw entry-is (omega (arith, t .based))
 
-      pub product-is : wordAt (coveredIn tables) k * wordAt change (e % 256) ≡ wordAt (coveredIn tables) k * wordAt change (entryAt rows (g .size) k j % 256)
-      product-is = ap (λ (a : ℕ). wordAt (coveredIn tables) k * wordAt change (a % 256)) entry-is
-
       module _ (after : ℕ) (changed : after ≡ bitXor w (wordAt (coveredIn tables) k * wordAt change (e % 256))) where
         -- the next word as the code made it
         pub next-is : after ≡ next (t .given) j below
-        next-is = changed ∙ ap (bitXor w) product-is
+        next-is = changed ∙ ap (λ (a : ℕ). bitXor w (wordAt (coveredIn tables) k * wordAt change (a % 256))) entry-is
 
         module _ (r : Bool) (test : r ≡ eqb (bitAnd after (wordAt (shutIn tables) k)) 0) where
           open-right : isOpen (closed (t .given)) (forced (t .given)) (entryAt rows (g .size) k j) ≡ r

@@ -5,11 +5,12 @@ pub mod state;
 
 ghost use mathlib.Core.Path.{_≡_};
 ghost use mathlib.Core.Option.{some};
-ghost use Prim.Native.Nat.{_*_, _%_, _^_, _<_};
+ghost use Prim.Native.Nat.{_*_, _%_};
 ghost use lib.Bits.{bitAnd, bitXor};
 ghost use lib.Dec.{eqb};
 ghost use Rattle.rules.specs.Refusals.{largest};
 ghost use Rattle.rules.specs.Walk.{keepBest};
+ghost use Rattle.laws.specs.code.Disjoint.{Disjoint};
 ghost use Rattle.laws.specs.walk.Allowance.{walkIn};
 ghost use Rattle.laws.specs.seats.Decided.{decided};
 ghost use Rattle.word.specs.Words.{wordOf, wordAt};
@@ -45,7 +46,7 @@ fn entry(rows: &Table, size: usize, k: usize, j: usize) -> u32
 
 // The word with an entry's pattern in a group: what it changes in group 0, at each group that this one covers.
 fn changed(w: Word, change: &[Word; 256], covered: Word, e: u32) -> Word
-    requires { ⌜ wordOf covered * wordAt (now change) (e % 256) < 2 ^ (2 ^ largest) ⌝ }
+    requires { ⌜ Disjoint largest (wordOf covered) (wordAt (now change) (e % 256)) ⌝ }
     ensures { λ r. ⌜ wordOf r ≡ bitXor (wordOf w) (wordOf covered * wordAt (now (change .entry)) (e % 256)) ⌝ }
 {
     let pattern = (e % 256) as usize;

@@ -1,7 +1,8 @@
 // A single one, a word moved up, and copies of a word's bits at the ones of another.
 ghost use mathlib.Core.Path.{_≡_};
-ghost use Prim.Native.Nat.{_*_, _%_, _^_, _<_};
+ghost use Prim.Native.Nat.{_*_, _%_, _^_};
 ghost use Rattle.rules.specs.Refusals.{largest};
+ghost use Rattle.laws.specs.code.Disjoint.{Disjoint};
 ghost use Rattle.word.specs.Words.{wordOf};
 use crate::SLOTS;
 use crate::Word;
@@ -20,9 +21,9 @@ pub fn above(w: Word, i: usize) -> Word
     if i < SLOTS { w << i } else { 0 }
 }
 
-// A copy of b's bits at each one of w; the copies must fit.
+// A copy of b's bits at each one of w; their ones must lie in disjoint index bits.
 pub fn copies(w: Word, b: Word) -> Word
-    requires { ⌜ wordOf w * wordOf b < 2 ^ (2 ^ largest) ⌝ }
+    requires { ⌜ Disjoint largest (wordOf w) (wordOf b) ⌝ }
     ensures { λ r. ⌜ wordOf r ≡ wordOf w * wordOf b ⌝ }
 {
     w * b

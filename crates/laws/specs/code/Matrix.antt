@@ -11,8 +11,8 @@ use lib.Pow.{pow-pos, pow-mono, pow-add, shr-lt, high, low, split}
 use lib.Bits.{bitXor, xor-zero-l, xor-zero-r, xor-self}
 use Rattle.rules.specs.Below.{sumBelow}
 use Rattle.rules.specs.Word.{bit, covers, codeBit, codeword, matrixF, kronecker}
-use Rattle.laws.specs.numbers.Sums.{sum-cong, sum-zero, sum-add, sum-split, sum-parity}
-use Rattle.laws.specs.numbers.Bits.{bit-div, bit-beyond, bit-mod, bit-low, bit-high, bit-ext, bit-xor, xor-twice, word-lt, word-bit, covers-le, covers-block}
+use Rattle.laws.specs.numbers.Sums.{sum-cong, sum-zero, sum-some, sum-add, sum-split, sum-parity}
+use Rattle.laws.specs.numbers.Bits.{bit-lt-two, bit-div, bit-beyond, bit-mod, bit-low, bit-high, bit-ext, bit-xor, xor-twice, word-lt, word-bit, covers-le, covers-block}
 
 -- what index j of the word d adds to x_i
 abbrev taken : ℕ → ℕ → ℕ → ℕ
@@ -45,6 +45,15 @@ codeword-bit n d i = go (decLt i (2 ^ n))
     go : Dec (i < 2 ^ n) → bit (codeword n d) i ≡ codeBit n d i
     go (yes l) = word-bit (2 ^ n) (codeBit n d) (λ j h. code-bit-lt n d j) i l
     go (no g) = bit-beyond (codeword-lt n d) (omega arith) ∙ sym (code-bit-beyond n d i (omega arith))
+
+-- a one of a codeword has an index that is covered by that of a one of the word
+pub code-one : (n d i : ℕ) → bit (codeword n d) i ≡ 1 → (j : ℕ) × (bit d j ≡ 1) × (covers i j ≡ true)
+unfolding codeBit
+code-one n d i e = let r = sum-some (2 ^ n) (taken i d) (omega (arith, codeword-bit n d i)) in go (r .0) (covers i (r .0)) refl (r .2)
+  where
+    go : (j : ℕ) (t : Bool) → covers i j ≡ t → 0 < cond t (bit d j) 0 → (j : ℕ) × (bit d j ≡ 1) × (covers i j ≡ true)
+    go j true c l = (j, omega (arith, bit-lt-two d j), c)
+    go j false c l = absurd (omega arith)
 
 taken-xor : (i a b j : ℕ) → taken i (bitXor a b) j ≡ (taken i a j + taken i b j) % 2
 taken-xor i a b j = go (covers i j)

@@ -6,7 +6,7 @@ use mathlib.Core.Bool.{Bool, true, false, _&&_, cond}
 use mathlib.Core.Option.{Option, none, some}
 use mathlib.Core.List.{[], _∷_, _++_, List·Memᴰ, List·Memᴰ·head, Memᴰ·append-left, Memᴰ·append-right, List·Memᴰ·append-cases, List·Memᴰ·eq-of-singleton, List·Memᴰ·not-nil}
 use native.Mathlib.Nat.{add-zero, add-suc, zero-mul, suc-mul, mul-add, add-le-add, not-suc-le-zero}
-use native.Mathlib.Decide.{ℕ-discrete}
+use native.Mathlib.Decide.{ℕ-discrete, decLt}
 use native.Mathlib.Numerals.{add-one}
 use native.Mathlib.Omega.{arith}
 use lib.ListN.{length, length-append}
@@ -63,6 +63,16 @@ sum-single (suc m) k {f} l h = go (ℕ-discrete k m) (λ k<m. sum-single m k k<m
     go : Dec (k ≡ m) → (k < m → sumBelow m f ≡ f k) → sumBelow m f + f m ≡ f k
     go (yes e) below = rw (e, sum-zero m (λ i i<m. h i (omega arith) (omega arith))) (omega arith)
     go (no n) below = omega (arith, below (omega arith), h m (omega arith) (omega arith))
+
+-- a sum that is not zero has a term that is not
+pub sum-some : (m : ℕ) (f : ℕ → ℕ) → 0 < sumBelow m f → (i : ℕ) × (i < m) × (0 < f i)
+unfolding sumBelow
+sum-some zero f h = absurd (omega arith)
+sum-some (suc m) f h = go (decLt 0 (f m)) (sum-some m f)
+  where
+    go : Dec (0 < f m) → (0 < sumBelow m f → (i : ℕ) × (i < m) × (0 < f i)) → (i : ℕ) × (i < suc m) × (0 < f i)
+    go (yes l) below = (m, omega arith, l)
+    go (no g) below = let r = below (omega arith) in (r .0, omega (arith, r .1), r .2)
 
 -- the parity of a sum is that of the sum of parities
 pub sum-parity : (m : ℕ) (f : ℕ → ℕ) → sumBelow m (λ i. f i % 2) % 2 ≡ sumBelow m f % 2

@@ -1,24 +1,26 @@
--- Group by group in index order: the change of a pattern is that of group 0 times the codeword of the group's smallest index;
--- that codeword from the one of the group without its highest one bit; and the frozen indices of a group.
+-- Group by group in index order: the change of a pattern is that of group 0 times the codeword of the group's smallest index, two
+-- words whose ones lie in disjoint index bits; that codeword from the one of the group without its highest one bit; and the
+-- frozen indices of a group.
 use Prim.Native.Nat.{ℕ, zero, suc, _+_, _-_, _*_, _^_, _≤_, _<_}
 use mathlib.Core.Path.{_≡_, sym, ap, ap₂, _∙_}
 use mathlib.Core.Bool.{Bool, true, false, cond}
-use native.Mathlib.Nat.{add-comm, add-zero, zero-mul, mul-zero, one-mul, mul-one, mul-add, suc-mul, mod-lt, le-refl, lt-of-lt-of-le}
-use native.Mathlib.Decide.{decLt}
+use native.Mathlib.Nat.{add-comm, add-zero, zero-mul, mul-zero, one-mul, mul-one, mul-add, suc-mul, mod-lt, div-eq-of-lt, le-refl, lt-of-lt-of-le}
+use native.Mathlib.Decide.{decLt, ℕ-discrete}
 use native.Mathlib.Omega.{arith}
 use lib.Arith.{digits-lt}
-use lib.Pow.{pow-pos, pow-add, pow-lt, pow-mono, high-ones, ones-lt}
-use lib.Bits.{bitAnd, bitXor, xor-comm, xor-shifted, and-high}
+use lib.Pow.{pow-pos, pow-add, pow-lt, pow-mono, shl-shr, high-ones, ones-lt}
+use lib.Bits.{bitAnd, bitXor, xor-comm, xor-shifted, and-high, and-le-l}
 use lib.Count.{ones, ones-le, ones-cat, ones-ones}
 use Rattle.rules.specs.Below.{sumBelow, countBelow}
 use Rattle.rules.specs.Word.{bit, covers, codeword}
-use Rattle.rules.specs.Folding.{groups}
-use Rattle.laws.specs.numbers.Bits.{bit-lt-two, bit-beyond, bit-within, bit-pow-same}
-use Rattle.laws.specs.code.Matrix.{codeword-lt, codeword-xor, codeword-one, codeword-longer, codeword-moved}
+use Rattle.rules.specs.Folding.{groups, smallest}
+use Rattle.laws.specs.numbers.Bits.{bit-lt-two, bit-beyond, bit-within, bit-pow-same, bit-pow-other}
+use Rattle.laws.specs.code.Disjoint.{Disjoint, outside-covered, inside-covered}
+use Rattle.laws.specs.code.Matrix.{code-one, codeword-lt, codeword-xor, codeword-one, codeword-longer, codeword-moved}
 use Rattle.laws.specs.numbers.Deposits.{deposit, deposit-none, deposit-more, deposit-pow, deposit-rises}
 use Rattle.laws.specs.seats.Blocks.{block-below, block-start, block-code}
-use Rattle.laws.specs.seats.Seats.{hasBit, seatIndex}
-use Rattle.laws.specs.seats.SeatWords.{seat, unseat, unseat-add, unseat-zero, unseat-pow, and-unseat, unseat-ones}
+use Rattle.laws.specs.seats.Seats.{hasBit, seatIndex, seat-onto, seat-smallest}
+use Rattle.laws.specs.seats.SeatWords.{seat, unseat, unseat-lt, unseat-bit, unseat-add, unseat-zero, unseat-pow, and-unseat, unseat-ones}
 use Rattle.laws.specs.seats.SeatGroups.{groups-pow, group-seat-lt, seat-start}
 use Rattle.laws.specs.seats.SeatedRow.{blockOf}
 use Rattle.laws.specs.seats.SeatedDown.{groups-blocks, block-small}
@@ -106,6 +108,52 @@ module _ (n F : ℕ) (fits : F < 2 ^ n) where
           ap (codeword n) (sym (unseat-pow n F (k * 2 ^ ones F) (rw add-zero at (group-seat-lt n F fits k 0 hk (pow-pos (ones F))))))
           ∙ sym (unseat-code n F fits (2 ^ (k * 2 ^ ones F))) ∙ ap (unseat n F) (start ∙ sym (one-mul _)) ∙ unseat-copies 1 (pow-lt (pow-pos (ones F))) covered (groups n F) (le-refl _)
           ∙ rw unseat-one (one-mul _)
+
+  -- what a group covers has ones at indices with none of the folding's bits
+  covered-outside : (k : ℕ) → k < groups n F → (i : ℕ) → bit (coveredOf n F k) i ≡ 1 → bitAnd i F ≡ 0
+  covered-outside k hk i e = let r = code-one n (2 ^ at) i e in outside-covered F i (r .0) (r .2) (go (r .0) (r .1) (ℕ-discrete (r .0) at))
+    where
+      at : ℕ
+      at = seatIndex n F (k * 2 ^ ones F)
+
+      own : smallest F at ≡ at
+      own =
+          seat-smallest n F fits (k * 2 ^ ones F) (rw add-zero at (group-seat-lt n F fits k 0 hk (pow-pos (ones F))))
+          ∙ rw (shl-shr k (ones F)) (sym (seat-start n F fits k hk))
+
+      go : (j : ℕ) → bit (2 ^ at) j ≡ 1 → Dec (j ≡ at) → bitAnd j F ≡ 0
+      go j b (yes same) = rw same (omega (arith, own, and-le-l at F))
+      go j b (no other) = absurd (omega (arith, bit-pow-other at j other))
+
+  -- the change of a pattern in group 0 has ones at indices with no other bits
+  change-inside : (u : ℕ) → u < 2 ^ (2 ^ ones F) → (i : ℕ) → bit (changeOf n F 0 u) i ≡ 1 → bitAnd i F ≡ i
+  change-inside u hu i e =
+      let r = code-one n (unseat n F block) i e in
+      let at = seat-onto n F fits (r .0) (bit-within (unseat-lt n F fits block) (r .1)) in
+      let own : bit block (at .0) ≡ 1 = sym (unseat-bit n F fits block (at .0) (at .1)) ∙ ap (bit (unseat n F block)) (at .2) ∙ r .1 in
+      inside-covered F i (r .0) (r .2) (rw (← at .2) (lowest (at .0) (at .1) (bit-within small own)))
+    where
+      block : ℕ
+      block = u * 2 ^ (0 * 2 ^ ones F)
+
+      small : block < 2 ^ (2 ^ ones F)
+      small = rw (zero-mul (2 ^ ones F), mul-one u) hu
+
+      lowest : (p : ℕ) → p < 2 ^ n → p < 2 ^ ones F → bitAnd (seatIndex n F p) F ≡ seatIndex n F p
+      lowest p l h =
+          let first : smallest F (seatIndex n F p) ≡ 0 = seat-smallest n F fits p l ∙ rw (div-eq-of-lt h) (deposit-none (hasBit F 0) n) in
+          omega (arith, and-le-l (seatIndex n F p) F)
+
+  -- so they lie in disjoint index bits
+  pub covered-apart : (k u : ℕ) → k < groups n F → u < 2 ^ (2 ^ ones F) → Disjoint n (coveredOf n F k) (changeOf n F 0 u)
+  covered-apart k u hk hu =
+      record {
+        own = F;
+        first-small = codeword-lt n _;
+        second-small = codeword-lt n _;
+        outside = covered-outside k hk;
+        inside = change-inside u hu;
+      }
 
   -- the changes in group 0, one slot more
   pub change-more : (t u : ℕ) → t < 2 ^ ones F → u < 2 ^ t → changeOf n F 0 (2 ^ t + u) ≡ bitXor (changeOf n F 0 u) (codeword n (2 ^ seatIndex n F t))

@@ -6,8 +6,8 @@ use native.Mathlib.Omega.{arith}
 use borrow.Author.Needs.{needs}
 use borrow.Author.Tests.{ltb-true, ltb-false}
 use Rattle.word.specs.Words.{wordOf}
-use Rattle.walk.proofs.Steps.{narrow, few-groups, inside, change-fits, near-fits, reached-fits, given-down}
-use Rattle.walk.proofs.Trying.{Trying, below, total-is, product-is, next-is, at-leaf, given-next, trying-none, trying-end, trying-shut, trying-out, trying-cut, trying-stopped, trying-back}
+use Rattle.walk.proofs.Steps.{narrow, few-groups, inside, change-apart, near-fits, reached-fits, given-down}
+use Rattle.walk.proofs.Trying.{Trying, below, total-is, next-is, at-leaf, given-next, trying-none, trying-end, trying-shut, trying-out, trying-cut, trying-stopped, trying-back}
 use borrow.Fn.Kinds.{In}
 use borrow.Fn.PlainCycle.{Measures, is, falls, and}
 use Rattle.walk.proofs.node.Reads as node
@@ -100,7 +100,7 @@ node-changed-requires : (t : ℕ) → node-lts.Need-changed-requires (claims t) 
 node-changed-requires t c κs =
     let inv = c .before .before .before .loop .inv in
     let here = c .before .before .loop-test .taken in
-    rw (product-is inv here _ (c .before .entry .ensures)) (change-fits (inv .given) _ (below inv here))
+    rw (c .before .entry .ensures) (change-apart (inv .given) _ (below inv here))
 
 node-mul-is-open : (t : ℕ) → node-lts.Need-mul-is-open (claims t) (node-at t) node.Post node-Inv-loop node-μ-loop
 node-mul-is-open t c = omega (arith, few-groups (c .before .before .before .before .loop .inv .given))
