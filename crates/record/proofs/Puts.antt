@@ -1,12 +1,10 @@
 -- Text put into a buffer in turn: nothing, a byte more, a text behind another.
-use Prim.Native.Nat.{ℕ, _+_, _-_, _^_, _≤_, _<_}
+use Prim.Native.Nat.{ℕ, _+_, _≤_}
 use mathlib.Core.Path.{_≡_, refl, _∙_, ap}
 use mathlib.Core.List.{List, [], _∷_, _++_}
 use native.Mathlib.Omega.{arith}
 use lib.ListN.{length, set, length-append}
 use lib.Seq.{length-sets}
-use Rattle.rules.specs.Text.{space, decimal}
-use Rattle.laws.specs.numbers.Digits.{decimal-length}
 use Rattle.laws.specs.numbers.Stores.{sets-append}
 use Rattle.record.specs.Lines.{Put, Within}
 
@@ -29,13 +27,6 @@ module _ {before : List ℕ} {at : ℕ} {text : List ℕ} {end : ℕ} {after : L
   -- a byte behind it
   pub put-byte : (b : ℕ) → Put before at (text ++ (b ∷ [])) (end + 1) (set after end b)
   put-byte b = put-then (record { ends = refl; holds = refl })
-
--- a 32-bit number has at most 10 digits
-pub ten-digits : (v : ℕ) → v < 2 ^ 32 → length (decimal v) ≤ 10
-ten-digits v l = decimal-length 9 v (omega arith)
-
-pub spaced-short : (v : ℕ) → v < 2 ^ 32 → length (space ++ decimal v) ≤ 11
-spaced-short v l = omega (arith, ten-digits v l)
 
 module _ {most : ℕ} {before : List ℕ} {at : ℕ} {text : List ℕ} {end : ℕ} {after : List ℕ} (part : Within most before at text end after) where
   -- a text behind it

@@ -2,14 +2,12 @@
 use Prim.Native.Nat.{ℕ, _+_, _-_, _*_, _≤_, _<_, min}
 use mathlib.Core.Path.{_≡_, refl, sym, _∙_, ap}
 use mathlib.Core.List.{List, [], _++_, append-assoc, append-nil}
-use native.Mathlib.Decide.{decLe}
-use native.Mathlib.Numerals.{add-one}
 use native.Mathlib.Omega.{arith}
-use lib.ListN.{length, take, drop, length-drop, drop-of-length-le}
-use lib.Seq.{sets, drop-drop, take-all}
+use lib.ListN.{length, take, drop, drop-of-length-le}
+use lib.Seq.{sets}
 use Rattle.rules.specs.Record.{recordBytes, recordAnswer}
 use Rattle.rules.specs.Text.{line, mostRecords, textFrom}
-use Rattle.laws.specs.answers.Texts.{text-none, text-step, text-stops}
+use Rattle.laws.specs.answers.Texts.{text-none, text-from, text-stops}
 use Rattle.record.specs.Lines.{Put, Within, longest}
 use Rattle.record.specs.Pieces.{roomFor, Piece}
 use Rattle.record.specs.declared.piece.Written.the-variants.{Lines}
@@ -39,31 +37,6 @@ through-none bytes number before =
       fits = omega arith;
     }
 
--- where the record that begins at a place ends
-next-drop : (bytes : List ℕ) (start : ℕ) → drop (min (start + recordBytes) (length bytes)) bytes ≡ drop recordBytes (drop start bytes)
-next-drop bytes start = go (decLe (start + recordBytes) (length bytes)) ∙ sym (drop-drop recordBytes start bytes)
-  where
-    go : Dec (start + recordBytes ≤ length bytes) → drop (min (start + recordBytes) (length bytes)) bytes ≡ drop (start + recordBytes) bytes
-    go (yes l) =
-        let e : min (start + recordBytes) (length bytes) ≡ start + recordBytes = omega arith in
-        rw e
-    go (no l) =
-        drop-of-length-le bytes {i = min (start + recordBytes) (length bytes)} (omega arith)
-        ∙ sym (drop-of-length-le bytes {i = start + recordBytes} (omega arith))
-
-record-take : (bytes : List ℕ) (start : ℕ) → start ≤ length bytes
-    → take (min (start + recordBytes) (length bytes) - start) (drop start bytes) ≡ take recordBytes (drop start bytes)
-record-take bytes start inside = go (decLe (start + recordBytes) (length bytes))
-  where
-    go : Dec (start + recordBytes ≤ length bytes)
-        → take (min (start + recordBytes) (length bytes) - start) (drop start bytes) ≡ take recordBytes (drop start bytes)
-    go (yes l) =
-        let e : min (start + recordBytes) (length bytes) - start ≡ recordBytes = omega arith in
-        rw e
-    go (no l) =
-        let short : length (drop start bytes) ≡ length bytes - start = length-drop start bytes in
-        take-all (min (start + recordBytes) (length bytes) - start) (drop start bytes) (omega (arith, short)) ∙ sym (take-all recordBytes (drop start bytes) (omega (arith, short)))
-
 lines-injective : {a b : ℕ} → Lines a ≡ Lines b → a ≡ b
 lines-injective e = cc
 
@@ -83,7 +56,7 @@ module _ {bytes : List ℕ} {number : ℕ} {before : List ℕ} {start end k : �
         put = put-then (t .put) (written .put);
         whole =
             append-assoc (t .text) shown (textFrom (k + 1) (drop next bytes))
-            ∙ ap (λ (r : List ℕ). t .text ++ r) (sym first)
+            ∙ ap (λ (r : List ℕ). t .text ++ r) (sym (text-from k start next bytes e few some))
             ∙ t .whole;
         inside = omega (arith, e);
         cut = λ more. omega (arith, e, t .cut some);
@@ -91,16 +64,8 @@ module _ {bytes : List ℕ} {number : ℕ} {before : List ℕ} {start end k : �
         fits = omega (arith, through-room some wide, put-length (t .put), written .short, written .put .ends);
       }
     where
-      rest : List ℕ
-      rest = drop start bytes
-
       shown : List ℕ
-      shown = line k (recordAnswer (take (next - start) rest))
-
-      first : textFrom k rest ≡ shown ++ textFrom (k + 1) (drop next bytes)
-      first =
-          let left : length rest ≡ length bytes - start = length-drop start bytes in
-          rw (e, record-take bytes start (t .inside), next-drop bytes start, add-one k) (text-step k rest few (omega (arith, left)))
+      shown = line k (recordAnswer (take (next - start) (drop start bytes)))
 
   -- the text is whole
   pub through-all : length bytes ≤ start → t .text ≡ textFrom number bytes

@@ -4,10 +4,10 @@ use mathlib.Core.Path.{_≡_}
 use mathlib.Core.List.{List, _++_, append-assoc}
 use native.Mathlib.Omega.{arith}
 use Rattle.rules.specs.Text.{decimal, hex, space, foundWord, lineEnd, line}
-use Rattle.laws.specs.numbers.Digits.{hex-length}
+use Rattle.laws.specs.numbers.Digits.{hex-length, ten-digits, spaced-short}
 use Rattle.word.specs.Words.{wordOf}
 use Rattle.record.specs.Lines.{Within, found}
-use Rattle.record.proofs.Puts.{within-then, room-left, ten-digits, spaced-short}
+use Rattle.record.proofs.Puts.{within-then, room-left}
 use borrow.Author.Needs.{needs}
 use Rattle.record.proofs.text.put_found.Statement.{statement}
 use Rattle.record.proofs.text.put_found.Tie as tie

@@ -5,9 +5,10 @@ use mathlib.Core.List.{List, _++_, append-assoc}
 use native.Mathlib.Omega.{arith}
 use Rattle.rules.specs.Refusals.{refused}
 use Rattle.rules.specs.Text.{decimal, space, refusedWord, lineEnd, line}
+use Rattle.laws.specs.numbers.Digits.{ten-digits, spaced-short}
 use Rattle.refusal.specs.Number.{numberOf, refusalOf}
 use Rattle.record.specs.Lines.{Within}
-use Rattle.record.proofs.Puts.{within-then, room-left, ten-digits, spaced-short}
+use Rattle.record.proofs.Puts.{within-then, room-left}
 use borrow.Author.Needs.{needs}
 use Rattle.record.proofs.text.put_refused.Statement.{statement}
 use Rattle.record.proofs.text.put_refused.Tie as tie
