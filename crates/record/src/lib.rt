@@ -1,6 +1,6 @@
 // Recorded blocks: a record read, decoded, and its line; the lines of many records.
+mod answers;
 pub mod block;
 pub mod piece;
 mod put;
 pub mod read;
-mod text;

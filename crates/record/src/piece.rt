@@ -6,9 +6,9 @@ ghost use Rattle.rules.specs.Text.{line};
 ghost use Rattle.tree.specs.Reading.{answerOf};
 ghost use Rattle.record.specs.Lines.{Within, longest};
 ghost use Rattle.record.specs.Pieces.{Piece};
+use crate::answers::put_found;
+use crate::answers::put_refused;
 use crate::block::decode;
-use crate::text::put_found;
-use crate::text::put_refused;
 
 // How many records a program reads at the most.
 pub const MOST_RECORDS: u32 = 4294967295;

@@ -1,4 +1,4 @@
--- `record::text::put_refused` meets its contract.
+-- `record::answers::put_refused` meets its contract.
 use Prim.Native.Nat.{ℕ}
 use mathlib.Core.Path.{_≡_}
 use mathlib.Core.List.{List, _++_, append-assoc}
@@ -10,8 +10,8 @@ use Rattle.refusal.specs.Number.{numberOf, refusalOf}
 use Rattle.record.specs.Lines.{Within}
 use Rattle.record.proofs.Puts.{within-then, room-left}
 use borrow.Author.Needs.{needs}
-use Rattle.record.proofs.text.put_refused.Statement.{statement}
-use Rattle.record.proofs.text.put_refused.Tie as tie
+use Rattle.record.proofs.answers.put_refused.Statement.{statement}
+use Rattle.record.proofs.answers.put_refused.Tie as tie
 
 -- the parts of the line, each with those before it
 abbrev word : tie.Start → List ℕ

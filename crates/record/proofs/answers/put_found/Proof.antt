@@ -1,4 +1,4 @@
--- `record::text::put_found` meets its contract.
+-- `record::answers::put_found` meets its contract.
 use Prim.Native.Nat.{ℕ}
 use mathlib.Core.Path.{_≡_}
 use mathlib.Core.List.{List, _++_, append-assoc}
@@ -9,8 +9,8 @@ use Rattle.word.specs.Words.{wordOf}
 use Rattle.record.specs.Lines.{Within, found}
 use Rattle.record.proofs.Puts.{within-then, room-left}
 use borrow.Author.Needs.{needs}
-use Rattle.record.proofs.text.put_found.Statement.{statement}
-use Rattle.record.proofs.text.put_found.Tie as tie
+use Rattle.record.proofs.answers.put_found.Statement.{statement}
+use Rattle.record.proofs.answers.put_found.Tie as tie
 
 -- the parts of the line, each with those before it
 abbrev word : tie.Start → List ℕ
