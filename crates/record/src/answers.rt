@@ -6,10 +6,7 @@ ghost use Rattle.rules.specs.Refusals as rules;
 ghost use Rattle.refusal.specs.Number.{refusalOf};
 ghost use Rattle.word.specs.Words.{wordOf};
 ghost use Rattle.record.specs.Lines.{Within, found, longest};
-use crate::put::put_bytes;
-use crate::put::put_decimal;
-use crate::put::put_hex;
-use crate::put::put_spaced;
+use crate::put;
 use refusal::Refusal;
 use word::Word;
 
@@ -25,12 +22,12 @@ pub(crate) fn put_found(
     requires { ⌜ at + longest ≤ length (now out) ⌝ }
     ensures { λ r. ⌜ ((d x : ℕ) → Within longest (now (out .entry)) at (line number (found (wordOf message) d x distance visits)) r (now (out .exit))) ⌝ }
 {
-    let at = put_decimal(out, at, number as u64);
-    let at = put_bytes(out, at, b" found ");
-    let at = put_hex(out, at, word::low(message));
-    let at = put_spaced(out, at, distance as u64);
-    let at = put_spaced(out, at, visits as u64);
-    put_bytes(out, at, b"\n")
+    let at = put::decimal(out, at, number as u64);
+    let at = put::bytes(out, at, b" found ");
+    let at = put::hex(out, at, word::low(message));
+    let at = put::spaced(out, at, distance as u64);
+    let at = put::spaced(out, at, visits as u64);
+    put::bytes(out, at, b"\n")
 }
 
 // The line of a refusal.
@@ -38,8 +35,8 @@ pub(crate) fn put_refused(out: &mut [u8], at: usize, number: u32, refusal: Refus
     requires { ⌜ at + longest ≤ length (now out) ⌝ }
     ensures { λ r. ⌜ Within longest (now (out .entry)) at (line number (rules.refused (refusalOf refusal))) r (now (out .exit)) ⌝ }
 {
-    let at = put_decimal(out, at, number as u64);
-    let at = put_bytes(out, at, b" refused");
-    let at = put_spaced(out, at, refusal::number(refusal) as u64);
-    put_bytes(out, at, b"\n")
+    let at = put::decimal(out, at, number as u64);
+    let at = put::bytes(out, at, b" refused");
+    let at = put::spaced(out, at, refusal::number(refusal) as u64);
+    put::bytes(out, at, b"\n")
 }

@@ -15,7 +15,7 @@ fn digit(v: u64) -> u8
 }
 
 // Bytes as they are.
-pub(crate) fn put_bytes(out: &mut [u8], at: usize, bytes: &[u8]) -> usize
+pub(crate) fn bytes(out: &mut [u8], at: usize, bytes: &[u8]) -> usize
     requires { ⌜ at + length (now bytes) ≤ length (now out) ⌝ }
     ensures { λ r. ⌜ Put (now (out .entry)) at (now (bytes .entry)) r (now (out .exit)) ⌝ }
 {
@@ -28,7 +28,7 @@ pub(crate) fn put_bytes(out: &mut [u8], at: usize, bytes: &[u8]) -> usize
 }
 
 // A number in decimal: the digits before the last, then the last.
-pub(crate) fn put_decimal(out: &mut [u8], at: usize, v: u64) -> usize
+pub(crate) fn decimal(out: &mut [u8], at: usize, v: u64) -> usize
     requires { ⌜ at + length (rules.decimal v) ≤ length (now out) ⌝ }
     ensures { λ r. ⌜ Put (now (out .entry)) at (rules.decimal v) r (now (out .exit)) ⌝ }
 {
@@ -36,23 +36,23 @@ pub(crate) fn put_decimal(out: &mut [u8], at: usize, v: u64) -> usize
         out[at] = digit(v);
         at + 1
     } else {
-        let last = put_decimal(out, at, v / 10);
+        let last = decimal(out, at, v / 10);
         out[last] = digit(v % 10);
         last + 1
     }
 }
 
 // A space and a number in decimal.
-pub(crate) fn put_spaced(out: &mut [u8], at: usize, v: u64) -> usize
+pub(crate) fn spaced(out: &mut [u8], at: usize, v: u64) -> usize
     requires { ⌜ at + length (rules.space ++ rules.decimal v) ≤ length (now out) ⌝ }
     ensures { λ r. ⌜ Put (now (out .entry)) at (rules.space ++ rules.decimal v) r (now (out .exit)) ⌝ }
 {
-    let at = put_bytes(out, at, b" ");
-    put_decimal(out, at, v)
+    let at = bytes(out, at, b" ");
+    decimal(out, at, v)
 }
 
 // A number as 16 hexadecimal digits, the highest first.
-pub(crate) fn put_hex(out: &mut [u8], at: usize, v: u64) -> usize
+pub(crate) fn hex(out: &mut [u8], at: usize, v: u64) -> usize
     requires { ⌜ at + 16 ≤ length (now out) ⌝ }
     ensures { λ r. ⌜ Put (now (out .entry)) at (rules.hex 16 v) r (now (out .exit)) ⌝ }
 {

@@ -28,51 +28,51 @@ whole c = simp append-assoc
 abbrev Part : tie.Start → ℕ → List ℕ → ℕ → List ℕ → Type 0
 Part c most text end after = Within most (c .args .out .now) (c .args .at) text end after
 
-abbrev start1 : tie.After-put-decimal → tie.Start
+abbrev start1 : tie.After-decimal → tie.Start
 start1 c = c .before .before .before
 
-number-put : (c : tie.After-put-decimal) → Part (start1 c) 10 (decimal (start1 c .args .number)) (c .put-decimal .result) (c .put-decimal .last .0)
-number-put c = record { put = c .put-decimal .ensures; short = ten-digits _ (omega arith) }
+number-put : (c : tie.After-decimal) → Part (start1 c) 10 (decimal (start1 c .args .number)) (c .decimal .result) (c .decimal .last .0)
+number-put c = record { put = c .decimal .ensures; short = ten-digits _ (omega arith) }
 
-abbrev start2 : tie.After-put-bytes → tie.Start
+abbrev start2 : tie.After-bytes → tie.Start
 start2 c = start1 (c .before .before .before .before .before)
 
-word-put : (c : tie.After-put-bytes) → Part (start2 c) 18 (word (start2 c)) (c .put-bytes .result) (c .put-bytes .last .0)
-word-put c = within-then (number-put (c .before .before .before .before .before)) 8 (c .put-bytes .ensures) (omega arith)
+word-put : (c : tie.After-bytes) → Part (start2 c) 18 (word (start2 c)) (c .bytes .result) (c .bytes .last .0)
+word-put c = within-then (number-put (c .before .before .before .before .before)) 8 (c .bytes .ensures) (omega arith)
 
-abbrev start3 : tie.After-put-spaced → tie.Start
+abbrev start3 : tie.After-spaced → tie.Start
 start3 c = start2 (c .before .before .before .before .before)
 
-refusal-put : (c : tie.After-put-spaced) → Part (start3 c) 29 (refusal (start3 c)) (c .put-spaced .result) (c .put-spaced .last .0)
+refusal-put : (c : tie.After-spaced) → Part (start3 c) 29 (refusal (start3 c)) (c .spaced .result) (c .spaced .last .0)
 refusal-put c =
     rw (← c .before .number .ensures)
-    (within-then (word-put (c .before .before .before .before .before)) 11 (c .put-spaced .ensures) (spaced-short _ (omega arith)))
+    (within-then (word-put (c .before .before .before .before .before)) 11 (c .spaced .ensures) (spaced-short _ (omega arith)))
 
-put-decimal-requires : tie.Need-put-decimal-requires
-put-decimal-requires c κs = omega (arith, ten-digits (c .before .before .args .number) (omega arith))
+decimal-requires : tie.Need-decimal-requires
+decimal-requires c κs = omega (arith, ten-digits (c .before .before .args .number) (omega arith))
 
-slice-aggregate-put-bytes : tie.Need-slice-aggregate-put-bytes
-slice-aggregate-put-bytes c = search needs
+slice-aggregate-bytes : tie.Need-slice-aggregate-bytes
+slice-aggregate-bytes c = search needs
 
-put-bytes-requires : tie.Need-put-bytes-requires
-put-bytes-requires c κs = room-left (number-put (c .before .before .before .before)) 8 (start1 (c .before .before .before .before) .pre) (omega arith)
+bytes-requires : tie.Need-bytes-requires
+bytes-requires c κs = room-left (number-put (c .before .before .before .before)) 8 (start1 (c .before .before .before .before) .pre) (omega arith)
 
 number-requires : tie.Need-number-requires
 number-requires c κs = search needs
 
-cast-put-spaced : tie.Need-cast-put-spaced
-cast-put-spaced c = search needs
+cast-spaced : tie.Need-cast-spaced
+cast-spaced c = search needs
 
-put-spaced-requires : tie.Need-put-spaced-requires
-put-spaced-requires c κs =
+spaced-requires : tie.Need-spaced-requires
+spaced-requires c κs =
     let c2 = c .before .before .before .before in
     omega (arith, room-left (word-put c2) 11 (start2 c2 .pre) (omega arith), spaced-short (c .number .result) (omega arith))
 
-slice-aggregate-put-bytes-2 : tie.Need-slice-aggregate-put-bytes-2
-slice-aggregate-put-bytes-2 c = search needs
+slice-aggregate-bytes-2 : tie.Need-slice-aggregate-bytes-2
+slice-aggregate-bytes-2 c = search needs
 
-put-bytes-requires-2 : tie.Need-put-bytes-requires-2
-put-bytes-requires-2 c κs = room-left (refusal-put (c .before .before .before .before)) 1 (start3 (c .before .before .before .before) .pre) (omega arith)
+bytes-requires-2 : tie.Need-bytes-requires-2
+bytes-requires-2 c κs = room-left (refusal-put (c .before .before .before .before)) 1 (start3 (c .before .before .before .before) .pre) (omega arith)
 
 same-length : tie.Need-same-length
 same-length c = search needs
@@ -80,19 +80,19 @@ same-length c = search needs
 returns : tie.Need-returns
 returns c =
     let c3 = c .before .before .before .before .before .before .before in
-    rw (← whole (start3 c3)) (within-then (refusal-put c3) 27 (c .before .before .put-bytes2 .ensures) (omega arith))
+    rw (← whole (start3 c3)) (within-then (refusal-put c3) 27 (c .before .before .bytes2 .ensures) (omega arith))
 
 pub put-refused-spec : {M : Type 1} → statement M
 put-refused-spec =
     tie.close
     (tie.spec
-    put-decimal-requires
-    slice-aggregate-put-bytes
-    put-bytes-requires
+    decimal-requires
+    slice-aggregate-bytes
+    bytes-requires
     number-requires
-    cast-put-spaced
-    put-spaced-requires
-    slice-aggregate-put-bytes-2
-    put-bytes-requires-2
+    cast-spaced
+    spaced-requires
+    slice-aggregate-bytes-2
+    bytes-requires-2
     same-length
     returns)

@@ -1,4 +1,4 @@
--- `record::put::put_bytes` meets its contract. Invariant: the bytes below i are put.
+-- `record::put::bytes` meets its contract. Invariant: the bytes below i are put.
 use Prim.Native.Nat.{_+_, _-_, _≤_}
 use mathlib.Core.Path.{_≡_}
 use native.Mathlib.Nat.{add-zero}
@@ -8,8 +8,8 @@ use lib.ListN.{length, take}
 use lib.Seq.{take-suc, take-length}
 use Rattle.record.specs.Lines.{Put}
 use Rattle.record.proofs.Puts.{put-none, put-length, put-byte}
-use Rattle.record.proofs.put.put_bytes.Statement.{statement}
-use Rattle.record.proofs.put.put_bytes.Tie as tie
+use Rattle.record.proofs.put.bytes.Statement.{statement}
+use Rattle.record.proofs.put.bytes.Tie as tie
 
 abbrev Inv-loop : tie.InvT-loop
 Inv-loop out₀ at bytes i₀ out i = (i ≤ length bytes) × Put out₀ at (take i bytes) (at + i) out
@@ -54,8 +54,8 @@ returns c =
     let all : c .before .loop .i ≡ length bytes = omega arith in
     rw (all, take-length bytes) at (c .before .loop .inv .1)
 
-pub put-bytes-spec : {M : Type 1} → statement M
-put-bytes-spec =
+pub bytes-spec : {M : Type 1} → statement M
+bytes-spec =
     tie.close
     (tie.spec
     Inv-loop

@@ -1,4 +1,4 @@
--- `record::put::put_hex` meets its contract. Invariant: the highest i digits are put.
+-- `record::put::hex` meets its contract. Invariant: the highest i digits are put.
 use Prim.Native.Nat.{suc, _+_, _-_, _*_, _/_, _%_, _^_, _≤_}
 use mathlib.Core.Path.{_≡_, _∙_}
 use native.Mathlib.Nat.{add-zero, div-one}
@@ -8,8 +8,8 @@ use Rattle.rules.specs.Text.{digit, hex}
 use Rattle.laws.specs.numbers.Digits.{hex-more, sixteens}
 use Rattle.record.specs.Lines.{Put}
 use Rattle.record.proofs.Puts.{put-none, put-length, put-byte}
-use Rattle.record.proofs.put.put_hex.Statement.{statement}
-use Rattle.record.proofs.put.put_hex.Tie as tie
+use Rattle.record.proofs.put.hex.Statement.{statement}
+use Rattle.record.proofs.put.hex.Tie as tie
 
 abbrev Inv-loop : tie.InvT-loop
 Inv-loop out₀ at v i₀ out i = (i ≤ 16) × Put out₀ at (hex i (v / 16 ^ (16 - i))) (at + i) out
@@ -68,8 +68,8 @@ returns c =
     let all : c .before .loop .i ≡ 16 = omega arith in
     rw (all, div-one) at (c .before .loop .inv .1)
 
-pub put-hex-spec : {M : Type 1} → statement M
-put-hex-spec =
+pub hex-spec : {M : Type 1} → statement M
+hex-spec =
     tie.close
     (tie.spec
     Inv-loop
