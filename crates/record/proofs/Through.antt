@@ -8,10 +8,11 @@ use lib.Seq.{sets}
 use Rattle.rules.specs.Record.{recordBytes, recordAnswer}
 use Rattle.rules.specs.Text.{line, mostRecords, textFrom}
 use Rattle.laws.specs.answers.Texts.{text-none, text-from, text-stops}
-use Rattle.record.specs.Lines.{Put, Within, longest}
+use Rattle.text.specs.Puts.{Put, put-none, put-length, put-then}
+use Rattle.text.specs.Within.{Within}
+use Rattle.record.specs.Lines.{longest}
 use Rattle.record.specs.Pieces.{roomFor, Piece}
 use Rattle.record.specs.declared.piece.Written.the-variants.{Lines}
-use Rattle.record.proofs.Puts.{put-none, put-length, put-then}
 
 -- the lines of the records before a place are written; the text of the bytes from there on is what is left
 pub record Through (bytes : List ℕ) (number : ℕ) (before : List ℕ) (start end k : ℕ) (out : List ℕ) : Type 0 where

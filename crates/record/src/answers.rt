@@ -5,8 +5,8 @@ ghost use Rattle.rules.specs.Text.{line};
 ghost use Rattle.rules.specs.Refusals as rules;
 ghost use Rattle.refusal.specs.Number.{refusalOf};
 ghost use Rattle.word.specs.Words.{wordOf};
-ghost use Rattle.record.specs.Lines.{Within, found, longest};
-use crate::put;
+ghost use Rattle.text.specs.Within.{Within};
+ghost use Rattle.record.specs.Lines.{found, longest};
 use refusal::Refusal;
 use word::Word;
 
@@ -22,12 +22,12 @@ pub(crate) fn put_found(
     requires { ⌜ at + longest ≤ length (now out) ⌝ }
     ensures { λ r. ⌜ ((d x : ℕ) → Within longest (now (out .entry)) at (line number (found (wordOf message) d x distance visits)) r (now (out .exit))) ⌝ }
 {
-    let at = put::decimal(out, at, number as u64);
-    let at = put::bytes(out, at, b" found ");
-    let at = put::hex(out, at, word::low(message));
-    let at = put::spaced(out, at, distance as u64);
-    let at = put::spaced(out, at, visits as u64);
-    put::bytes(out, at, b"\n")
+    let at = text::decimal(out, at, number as u64);
+    let at = text::bytes(out, at, b" found ");
+    let at = text::hex(out, at, word::low(message));
+    let at = text::spaced(out, at, distance as u64);
+    let at = text::spaced(out, at, visits as u64);
+    text::bytes(out, at, b"\n")
 }
 
 // The line of a refusal.
@@ -35,8 +35,8 @@ pub(crate) fn put_refused(out: &mut [u8], at: usize, number: u32, refusal: Refus
     requires { ⌜ at + longest ≤ length (now out) ⌝ }
     ensures { λ r. ⌜ Within longest (now (out .entry)) at (line number (rules.refused (refusalOf refusal))) r (now (out .exit)) ⌝ }
 {
-    let at = put::decimal(out, at, number as u64);
-    let at = put::bytes(out, at, b" refused");
-    let at = put::spaced(out, at, refusal::number(refusal) as u64);
-    put::bytes(out, at, b"\n")
+    let at = text::decimal(out, at, number as u64);
+    let at = text::bytes(out, at, b" refused");
+    let at = text::spaced(out, at, refusal::number(refusal) as u64);
+    text::bytes(out, at, b"\n")
 }

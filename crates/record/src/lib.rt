@@ -2,5 +2,4 @@
 mod answers;
 pub mod block;
 pub mod piece;
-mod put;
 pub mod read;

@@ -3,7 +3,7 @@ ghost use mathlib.Core.Path.{_≡_};
 ghost use Prim.Native.Nat.{_≤_, _<_};
 ghost use lib.ListN.{length, take};
 ghost use Rattle.rules.specs.Text.{textFrom};
-ghost use Rattle.record.specs.Lines.{Put};
+ghost use Rattle.text.specs.Puts.{Put};
 ghost use Rattle.stream.specs.Pieces.{mostBytes, mostRoom, pieceBytes, takenOf, nextPiece};
 use record::piece::MOST_RECORDS;
 use record::piece::Written;

@@ -6,8 +6,8 @@ use native.Mathlib.Omega.{arith}
 use Rattle.rules.specs.Text.{decimal, hex, space, foundWord, lineEnd, line}
 use Rattle.laws.specs.numbers.Digits.{hex-length, ten-digits, spaced-short}
 use Rattle.word.specs.Words.{wordOf}
-use Rattle.record.specs.Lines.{Within, found}
-use Rattle.record.proofs.Puts.{within-then, room-left}
+use Rattle.text.specs.Within.{Within, within-then, room-left}
+use Rattle.record.specs.Lines.{found}
 use borrow.Author.Needs.{needs}
 use Rattle.record.proofs.answers.put_found.Statement.{statement}
 use Rattle.record.proofs.answers.put_found.Tie as tie

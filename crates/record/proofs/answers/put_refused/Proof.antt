@@ -7,8 +7,7 @@ use Rattle.rules.specs.Refusals.{refused}
 use Rattle.rules.specs.Text.{decimal, space, refusedWord, lineEnd, line}
 use Rattle.laws.specs.numbers.Digits.{ten-digits, spaced-short}
 use Rattle.refusal.specs.Number.{numberOf, refusalOf}
-use Rattle.record.specs.Lines.{Within}
-use Rattle.record.proofs.Puts.{within-then, room-left}
+use Rattle.text.specs.Within.{Within, within-then, room-left}
 use borrow.Author.Needs.{needs}
 use Rattle.record.proofs.answers.put_refused.Statement.{statement}
 use Rattle.record.proofs.answers.put_refused.Tie as tie

@@ -3,9 +3,9 @@ use Prim.Native.Nat.{ℕ, _-_, _≤_}
 use mathlib.Core.Path.{_≡_, refl}
 use native.Mathlib.Omega.{arith}
 use lib.ListN.{length}
+use Rattle.text.specs.Puts.{put-length}
 use Rattle.record.specs.Pieces.{roomFor}
 use Rattle.record.specs.declared.piece.Written.the-variants.{Lines, NoRoom}
-use Rattle.record.proofs.Puts.{put-length}
 use Rattle.record.proofs.Through.{Through, through-none, through-room, through-next, through-all, through-stopped, through-piece}
 use Rattle.record.proofs.piece.lines.Statement.{statement}
 use Rattle.record.proofs.piece.lines.Tie as tie

@@ -4,7 +4,7 @@ use mathlib.Core.Path.{_≡_, sym}
 use mathlib.Core.List.{List}
 use lib.ListN.{length, take, length-take}
 use Rattle.rules.specs.Text.{textFrom}
-use Rattle.record.specs.Lines.{Put}
+use Rattle.text.specs.Puts.{Put}
 use Rattle.record.specs.Pieces.{Piece}
 use Rattle.record.specs.declared.piece.Written.{Written}
 use Rattle.record.specs.declared.piece.Written.the-variants.{Lines, NoRoom}

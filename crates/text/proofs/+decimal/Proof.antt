@@ -1,4 +1,4 @@
--- `record::put::decimal` meets its contract. The measure is the number: each call has a digit less.
+-- `text::decimal` meets its contract. The measure is the number: each call has a digit less.
 use Prim.Native.Nat.{ℕ, _<_}
 use mathlib.Core.Path.{ap}
 use native.Mathlib.Omega.{arith}
@@ -6,13 +6,13 @@ use lib.ListN.{length}
 use borrow.Fn.Kinds.{In}
 use borrow.Fn.PlainCycle.{Measures, is, falls, and}
 use Rattle.laws.specs.numbers.Digits.{decimal-one, decimal-more, decimal-more-length}
-use Rattle.record.proofs.Puts.{put-none, put-length, put-byte}
-use Rattle.record.proofs.put.decimal.Reads as decimal
-use Rattle.record.proofs.put.decimal.Kinds as decimal-kinds
-use Rattle.record.proofs.put.+decimal.Lts-decimal as lts
-use Rattle.record.proofs.put.digit.Reads as digit
-use Rattle.record.proofs.put.+decimal.{statement}
-use Rattle.record.proofs.put.+decimal.Tie.{close}
+use Rattle.text.specs.Puts.{put-none, put-length, put-byte}
+use Rattle.text.proofs.decimal.Reads as decimal
+use Rattle.text.proofs.decimal.Kinds as decimal-kinds
+use Rattle.text.proofs.+decimal.Lts-decimal as lts
+use Rattle.text.proofs.digit.Reads as digit
+use Rattle.text.proofs.+decimal.{statement}
+use Rattle.text.proofs.+decimal.Tie.{close}
 
 abbrev μ-decimal : Measures 1 decimal-kinds.ps ℕ
 μ-decimal κs a = a .1 .1 .0

@@ -1,12 +1,22 @@
--- Text put into a buffer in turn: nothing, a byte more, a text behind another.
-use Prim.Native.Nat.{ℕ, _+_, _≤_}
+-- What the contracts of this crate speak of, text put into a buffer, and its laws: nothing, a byte more, a text behind another.
+use Prim.Native.Nat.{ℕ, _+_}
 use mathlib.Core.Path.{_≡_, refl, _∙_, ap}
 use mathlib.Core.List.{List, [], _∷_, _++_}
 use native.Mathlib.Omega.{arith}
 use lib.ListN.{length, set, length-append}
-use lib.Seq.{length-sets}
+use lib.Seq.{sets, length-sets}
 use Rattle.laws.specs.numbers.Stores.{sets-append}
-use Rattle.record.specs.Lines.{Put, Within}
+use Rattle.laws.specs.answers.OneAnswer.{one-answer}
+
+-- a text is put into a buffer at a place: where it ends, and the whole buffer afterwards
+pub record Put (before : List ℕ) (at : ℕ) (text : List ℕ) (end : ℕ) (after : List ℕ) : Type 0 where
+  pub ends : end ≡ at + length text
+  pub holds : after ≡ sets before at text
+
+-- the end and the buffer are determined
+pub one-put : {before : List ℕ} {at : ℕ} {text : List ℕ} {r s : ℕ} {after other : List ℕ} → Put before at text r after
+    → Put before at text s other → (r ≡ s) × (after ≡ other)
+one-put p q = (one-answer (p .ends) (q .ends), one-answer (p .holds) (q .holds))
 
 pub put-none : (out : List ℕ) (at : ℕ) → Put out at [] at out
 put-none out at = record { ends = omega arith; holds = refl }
@@ -27,14 +37,3 @@ module _ {before : List ℕ} {at : ℕ} {text : List ℕ} {end : ℕ} {after : L
   -- a byte behind it
   pub put-byte : (b : ℕ) → Put before at (text ++ (b ∷ [])) (end + 1) (set after end b)
   put-byte b = put-then (record { ends = refl; holds = refl })
-
-module _ {most : ℕ} {before : List ℕ} {at : ℕ} {text : List ℕ} {end : ℕ} {after : List ℕ} (part : Within most before at text end after) where
-  -- a text behind it
-  pub within-then : {more : List ℕ} {last : ℕ} {whole : List ℕ} (k : ℕ) → Put after end more last whole → length more ≤ k
-      → Within (most + k) before at (text ++ more) last whole
-  within-then {more} k next l =
-      record { put = put-then (part .put) next; short = omega (arith, part .short, length-append text more) }
-
-  -- what room it leaves
-  pub room-left : {room : ℕ} (k : ℕ) → at + room ≤ length before → most + k ≤ room → end + k ≤ length after
-  room-left k fits l = omega (arith, part .short, part .put .ends, put-length (part .put))

@@ -1,8 +1,8 @@
--- `record::put::spaced` meets its contract.
-use Rattle.record.proofs.Puts.{put-then}
+-- `text::spaced` meets its contract.
+use Rattle.text.specs.Puts.{put-then}
 use borrow.Author.Needs.{needs}
-use Rattle.record.proofs.put.spaced.Statement.{statement}
-use Rattle.record.proofs.put.spaced.Tie as tie
+use Rattle.text.proofs.spaced.Statement.{statement}
+use Rattle.text.proofs.spaced.Tie as tie
 
 slice-aggregate-bytes : tie.Need-slice-aggregate-bytes
 slice-aggregate-bytes c = search needs

@@ -1,15 +1,14 @@
--- `record::put::hex` meets its contract. Invariant: the highest i digits are put.
+-- `text::hex` meets its contract. Invariant: the highest i digits are put.
 use Prim.Native.Nat.{suc, _+_, _-_, _*_, _/_, _%_, _^_, _≤_}
-use mathlib.Core.Path.{_≡_, _∙_}
+use mathlib.Core.Path.{_≡_}
 use native.Mathlib.Nat.{add-zero, div-one}
 use native.Mathlib.Numerals.{add-one}
 use native.Mathlib.Omega.{arith}
 use Rattle.rules.specs.Text.{digit, hex}
 use Rattle.laws.specs.numbers.Digits.{hex-more, sixteens}
-use Rattle.record.specs.Lines.{Put}
-use Rattle.record.proofs.Puts.{put-none, put-length, put-byte}
-use Rattle.record.proofs.put.hex.Statement.{statement}
-use Rattle.record.proofs.put.hex.Tie as tie
+use Rattle.text.specs.Puts.{Put, put-none, put-length, put-byte}
+use Rattle.text.proofs.hex.Statement.{statement}
+use Rattle.text.proofs.hex.Tie as tie
 
 abbrev Inv-loop : tie.InvT-loop
 Inv-loop out₀ at v i₀ out i = (i ≤ 16) × Put out₀ at (hex i (v / 16 ^ (16 - i))) (at + i) out
@@ -54,8 +53,8 @@ loop-again c =
     let before : 16 - i ≡ suc k = omega arith in
     let after : 16 - (i + 1) ≡ k = omega arith in
     let shift : 60 - 4 * i ≡ 4 * k = omega arith in
-    let shown : c .digit .result ≡ digit (args .v / 16 ^ k % 16) = c .digit .ensures ∙ rw (shift, sixteens k) in
-    (omega arith, rw (next, after, add-one i, hex-more i k (args .v), shown) (put-byte (rw before at (c .before .before .loop .inv .1)) _))
+    let shown : c .digit .result ≡ digit (args .v / 2 ^ (60 - 4 * i) % 16) = c .digit .ensures in
+    (omega arith, rw (next, after, add-one i, hex-more i k (args .v), shown, shift, sixteens k) (put-byte (rw before at (c .before .before .loop .inv .1)) _))
 
 add-result : tie.Need-add-result Inv-loop μ-loop
 add-result c = omega arith

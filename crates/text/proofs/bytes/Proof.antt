@@ -1,4 +1,4 @@
--- `record::put::bytes` meets its contract. Invariant: the bytes below i are put.
+-- `text::bytes` meets its contract. Invariant: the bytes below i are put.
 use Prim.Native.Nat.{_+_, _-_, _≤_}
 use mathlib.Core.Path.{_≡_}
 use native.Mathlib.Nat.{add-zero}
@@ -6,10 +6,9 @@ use native.Mathlib.Numerals.{add-one}
 use native.Mathlib.Omega.{arith}
 use lib.ListN.{length, take}
 use lib.Seq.{take-suc, take-length}
-use Rattle.record.specs.Lines.{Put}
-use Rattle.record.proofs.Puts.{put-none, put-length, put-byte}
-use Rattle.record.proofs.put.bytes.Statement.{statement}
-use Rattle.record.proofs.put.bytes.Tie as tie
+use Rattle.text.specs.Puts.{Put, put-none, put-length, put-byte}
+use Rattle.text.proofs.bytes.Statement.{statement}
+use Rattle.text.proofs.bytes.Tie as tie
 
 abbrev Inv-loop : tie.InvT-loop
 Inv-loop out₀ at bytes i₀ out i = (i ≤ length bytes) × Put out₀ at (take i bytes) (at + i) out

@@ -1,8 +1,8 @@
--- `record::put::digit` meets its contract.
+-- `text::digit` meets its contract.
 use borrow.Author.Tests.{lt-ltb, le-ltb}
 use borrow.Author.Needs.{needs}
-use Rattle.record.proofs.put.digit.Statement.{statement}
-use Rattle.record.proofs.put.digit.Tie as tie
+use Rattle.text.proofs.digit.Statement.{statement}
+use Rattle.text.proofs.digit.Tie as tie
 
 cast-result : tie.Need-cast-result
 cast-result c = search needs

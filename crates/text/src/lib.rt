@@ -1,10 +1,11 @@
-// Text put into a lent buffer from a place on: bytes, a number in decimal, hexadecimal digits. Each answers the place behind.
+// Parts of lines put into a lent buffer from a place on: bytes, a number in decimal, hexadecimal digits. Each answers the place
+// behind. A caller proves that the buffer has room.
 ghost use mathlib.Core.Path.{_≡_};
 ghost use mathlib.Core.List.{_++_};
 ghost use Prim.Native.Nat.{_+_, _≤_, _<_};
 ghost use lib.ListN.{length};
 ghost use Rattle.rules.specs.Text as rules;
-ghost use Rattle.record.specs.Lines.{Put};
+ghost use Rattle.text.specs.Puts.{Put};
 
 // The byte of a digit.
 fn digit(v: u64) -> u8
@@ -15,7 +16,7 @@ fn digit(v: u64) -> u8
 }
 
 // Bytes as they are.
-pub(crate) fn bytes(out: &mut [u8], at: usize, bytes: &[u8]) -> usize
+pub fn bytes(out: &mut [u8], at: usize, bytes: &[u8]) -> usize
     requires { ⌜ at + length (now bytes) ≤ length (now out) ⌝ }
     ensures { λ r. ⌜ Put (now (out .entry)) at (now (bytes .entry)) r (now (out .exit)) ⌝ }
 {
@@ -28,7 +29,7 @@ pub(crate) fn bytes(out: &mut [u8], at: usize, bytes: &[u8]) -> usize
 }
 
 // A number in decimal: the digits before the last, then the last.
-pub(crate) fn decimal(out: &mut [u8], at: usize, v: u64) -> usize
+pub fn decimal(out: &mut [u8], at: usize, v: u64) -> usize
     requires { ⌜ at + length (rules.decimal v) ≤ length (now out) ⌝ }
     ensures { λ r. ⌜ Put (now (out .entry)) at (rules.decimal v) r (now (out .exit)) ⌝ }
 {
@@ -43,7 +44,7 @@ pub(crate) fn decimal(out: &mut [u8], at: usize, v: u64) -> usize
 }
 
 // A space and a number in decimal.
-pub(crate) fn spaced(out: &mut [u8], at: usize, v: u64) -> usize
+pub fn spaced(out: &mut [u8], at: usize, v: u64) -> usize
     requires { ⌜ at + length (rules.space ++ rules.decimal v) ≤ length (now out) ⌝ }
     ensures { λ r. ⌜ Put (now (out .entry)) at (rules.space ++ rules.decimal v) r (now (out .exit)) ⌝ }
 {
@@ -52,7 +53,7 @@ pub(crate) fn spaced(out: &mut [u8], at: usize, v: u64) -> usize
 }
 
 // A number as 16 hexadecimal digits, the highest first.
-pub(crate) fn hex(out: &mut [u8], at: usize, v: u64) -> usize
+pub fn hex(out: &mut [u8], at: usize, v: u64) -> usize
     requires { ⌜ at + 16 ≤ length (now out) ⌝ }
     ensures { λ r. ⌜ Put (now (out .entry)) at (rules.hex 16 v) r (now (out .exit)) ⌝ }
 {
