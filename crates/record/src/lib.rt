@@ -1,5 +1,2 @@
-// Recorded blocks: a record read, decoded, and its line; the lines of many records.
-mod answers;
-pub mod block;
-pub mod piece;
+// A recorded block read.
 pub mod read;

@@ -25,7 +25,7 @@ fn read_of(bytes: &[u8]) {
 
 fn answer(bytes: &[u8], decodes: bool) {
     if decodes {
-        decoding::answer(record::block::decode(bytes));
+        decoding::answer(lines::block::decode(bytes));
     } else {
         read_of(bytes);
     }
