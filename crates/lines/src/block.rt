@@ -2,8 +2,8 @@
 ghost use mathlib.Core.Path.{_≡_};
 ghost use Rattle.rules.specs.Record.{recordAnswer};
 ghost use Rattle.tree.specs.Reading.{answerOf};
-use record::read::Verdict;
-use record::read::read;
+use record::Verdict;
+use record::read;
 
 // What a record answers: 13, 1, 12, 3, 4, 5, 6, 7, 8, or the finished decoding.
 pub fn decode(bytes: &[u8]) -> tree::Answer

@@ -2,8 +2,8 @@
 use crate::decoding;
 use crate::given;
 use crate::line;
-use record::read::Fields;
-use record::read::Verdict;
+use record::Fields;
+use record::Verdict;
 
 fn fields(fields: Fields) {
     printing::number(b" -> n=", fields.n as u64);
@@ -15,7 +15,7 @@ fn fields(fields: Fields) {
 }
 
 fn read_of(bytes: &[u8]) {
-    let answer = record::read::read(bytes);
+    let answer = record::read(bytes);
     let verdict = answer.verdict;
     match verdict {
         Verdict::Read => fields(answer.fields),

@@ -1,9 +1,9 @@
--- `record::read::eight` meets its contract: the law of two parts.
+-- `record::eight` meets its contract: the law of two parts.
 use native.Mathlib.Omega.{arith}
 use Rattle.laws.specs.numbers.LittleEndian.{number-parts}
 use borrow.Author.Needs.{needs}
-use Rattle.record.proofs.read.eight.Statement.{statement}
-use Rattle.record.proofs.read.eight.Tie as tie
+use Rattle.record.proofs.eight.Statement.{statement}
+use Rattle.record.proofs.eight.Tie as tie
 
 four-requires : tie.Need-four-requires
 four-requires c κs = search needs

@@ -1,9 +1,9 @@
--- `record::read::refused` meets its contract.
+-- `record::refused` meets its contract.
 use mathlib.Core.Path.{refl}
 use borrow.Author.Needs.{needs}
 use Rattle.record.specs.Reading.{noFields}
-use Rattle.record.proofs.read.refused.Statement.{statement}
-use Rattle.record.proofs.read.refused.Tie as tie
+use Rattle.record.proofs.refused.Statement.{statement}
+use Rattle.record.proofs.refused.Tie as tie
 
 none-requires : tie.Need-none-requires
 none-requires c κs = search needs

@@ -1,4 +1,4 @@
--- `record::read::levels` meets its contract. Invariant: the levels below i are those of the slots.
+-- `record::levels` meets its contract. Invariant: the levels below i are those of the slots.
 use Prim.Native.Nat.{ℕ, _-_, _≤_, _<_}
 use mathlib.Core.Path.{_≡_, _∙_}
 use native.Mathlib.Omega.{arith}
@@ -10,8 +10,8 @@ use borrow.Author.Count.{below-none}
 use borrow.Author.Needs.{needs}
 use Rattle.rules.specs.Record.{slotLevel}
 use Rattle.laws.specs.numbers.Each.{each-stored, each-all}
-use Rattle.record.proofs.read.levels.Statement.{statement}
-use Rattle.record.proofs.read.levels.Tie as tie
+use Rattle.record.proofs.levels.Statement.{statement}
+use Rattle.record.proofs.levels.Tie as tie
 
 abbrev Inv-loop : tie.InvT-loop
 Inv-loop bytes levels₀ i₀ levels i =

@@ -1,9 +1,9 @@
--- `record::read::two` meets its contract: the law of two parts.
+-- `record::two` meets its contract: the law of two parts.
 use native.Mathlib.Omega.{arith}
 use Rattle.laws.specs.numbers.LittleEndian.{number-parts}
 use borrow.Author.Needs.{needs}
-use Rattle.record.proofs.read.two.Statement.{statement}
-use Rattle.record.proofs.read.two.Tie as tie
+use Rattle.record.proofs.two.Statement.{statement}
+use Rattle.record.proofs.two.Tie as tie
 
 one-requires : tie.Need-one-requires
 one-requires c κs = search needs

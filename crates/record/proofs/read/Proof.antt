@@ -1,4 +1,4 @@
--- `record::read::read` meets its contract.
+-- `record::read` meets its contract.
 use Prim.Native.Nat.{ℕ, _^_}
 use mathlib.Core.Path.{_≡_, sym, _∙_, ap}
 use mathlib.Core.Bool.{not}
@@ -14,8 +14,8 @@ use Rattle.checks.specs.Passing.{folded-passed, folded-refused}
 use Rattle.record.specs.Reading.{zerosAt}
 use Rattle.record.proofs.Order.{sizeAt, maskAt, foldingAt, fromCode, from12, from1, from-13, refused-right, read-right}
 use borrow.Author.Needs.{needs}
-use Rattle.record.proofs.read.read.Statement.{statement}
-use Rattle.record.proofs.read.read.Tie as tie
+use Rattle.record.proofs.read.Statement.{statement}
+use Rattle.record.proofs.read.Tie as tie
 
 -- the bytes that were handed in, and what the rules still answer after each test that was passed
 abbrev bytes13 : tie.Else1 → List ℕ

@@ -1,4 +1,4 @@
--- `record::read::level` meets its contract. Only its last steps are signed.
+-- `record::level` meets its contract. Only its last steps are signed.
 use Prim.Native.Nat.{ℕ, zero, suc, _-_, _^_, _<_}
 use mathlib.Core.Path.{_≡_, sym, _∙_, ap}
 use native.Mathlib.Omega.{arith}
@@ -9,8 +9,8 @@ use mir.ValLaws.{toZ-pos, toZ-ofZ}
 use mir.Facts.{sfits-lit}
 use borrow.Author.Tests.{lt-ltb, le-ltb}
 use borrow.Author.Needs.{needs}
-use Rattle.record.proofs.read.level.Statement.{statement}
-use Rattle.record.proofs.read.level.Tie as tie
+use Rattle.record.proofs.level.Statement.{statement}
+use Rattle.record.proofs.level.Tie as tie
 
 -- a small number taken from 0, as the machine has it
 negated : (m : ℕ) → m < 2 ^ 31 → pos 0 -ℤ toZ w32 m ≡ negℤ (pos m)

@@ -1,4 +1,4 @@
--- `record::read::zeros` meets its contract. Invariant: each level below i is one of the slots', or is zero.
+-- `record::zeros` meets its contract. Invariant: each level below i is one of the slots', or is zero.
 use Prim.Native.Nat.{ℕ, _+_, _*_, _-_, _≤_, _<_}
 use mathlib.Core.Path.{_≡_, sym, _∙_}
 use mathlib.Core.Bool.{Bool, true, _||_}
@@ -9,8 +9,8 @@ use borrow.Author.Count.{below-more}
 use borrow.Author.Tests.{lt-ltb, le-ltb, eq-eqb, ne-eqb}
 use Rattle.rules.specs.Record.{numberAt}
 use Rattle.laws.specs.numbers.Sums.{all-of, all-fails}
-use Rattle.record.proofs.read.zeros.Statement.{statement}
-use Rattle.record.proofs.read.zeros.Tie as tie
+use Rattle.record.proofs.zeros.Statement.{statement}
+use Rattle.record.proofs.zeros.Tie as tie
 
 -- a level that need not be zero, or is
 abbrev quiet : List ℕ → ℕ → ℕ → Bool
