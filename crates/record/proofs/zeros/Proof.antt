@@ -22,11 +22,15 @@ Inv-loop bytes slots i₀ i = (slots ≤ i) × ((k : ℕ) → k < i → quiet by
 abbrev μ-loop : tie.MeasureT-loop
 μ-loop bytes slots i₀ i = 64 - i
 
+-- bytes 2 and 3
+read-first : (c : tie.After-two Inv-loop μ-loop) → c .two .result ≡ numberAt (c .before .before .args .bytes .now) 2 2
+read-first c = c .two .ensures
+
 two-requires : tie.Need-two-requires Inv-loop μ-loop
 two-requires c κs = omega arith
 
 returns : tie.Need-returns Inv-loop μ-loop
-returns c = rw (ne-eqb _ 0 (λ e. c .if1 .taken (c .before .two .ensures ∙ e)))
+returns c = rw (ne-eqb _ 0 (λ e. c .if1 .taken (read-first (c .before) ∙ e)))
 
 loop-holds : tie.Need-loop-holds Inv-loop μ-loop
 loop-holds c = (omega arith, λ k l. rw (lt-ltb k _ l))
@@ -48,7 +52,7 @@ returns-2 c =
     all-fails 64 (quiet (args .bytes .now) (args .slots)) (loop .i) (omega arith)
     (rw (le-ltb _ _ (loop .inv .0), ne-eqb _ 0 (λ e. c .if2 .taken (c .before .two2 .ensures ∙ e))))
     in
-    rw (eq-eqb _ 0 (sym (c .before .before .before .before .before .two .ensures) ∙ c .before .before .before .before .if1 .left), failed)
+    rw (eq-eqb _ 0 (sym (read-first (c .before .before .before .before .before)) ∙ c .before .before .before .before .if1 .left), failed)
 
 add-i : tie.Need-add-i Inv-loop μ-loop
 add-i c = omega arith
@@ -66,7 +70,7 @@ loop-again c =
 returns-3 : tie.Need-returns-3 Inv-loop μ-loop
 returns-3 c =
     rw (
-      eq-eqb _ 0 (sym (c .before .before .before .two .ensures) ∙ c .before .before .if1 .left),
+      eq-eqb _ 0 (sym (read-first (c .before .before .before)) ∙ c .before .before .if1 .left),
       all-of 64 (quiet _ _) (λ i l. c .before .loop .inv .1 i (omega arith)),
     )
 
