@@ -1,5 +1,5 @@
 -- The lines of a piece in turn: before the first record, one record more, and where the text is whole.
-use Prim.Native.Nat.{ℕ, _+_, _-_, _*_, _≤_, _<_, min}
+use Prim.Native.Nat.{ℕ, _+_, _-_, _*_, _≤_, _<_}
 use mathlib.Core.Path.{_≡_, refl, sym, _∙_, ap}
 use mathlib.Core.List.{List, [], _++_, append-assoc, append-nil}
 use native.Mathlib.Omega.{arith}
@@ -7,7 +7,7 @@ use lib.ListN.{length, take, drop, drop-of-length-le}
 use lib.Seq.{sets}
 use Rattle.rules.specs.Record.{recordBytes, recordAnswer}
 use Rattle.rules.specs.Text.{line, mostRecords, textFrom}
-use Rattle.laws.specs.answers.Texts.{text-none, text-from, text-stops}
+use Rattle.laws.specs.answers.Texts.{text-none, recordEnd, text-from, text-stops}
 use Rattle.text.specs.Puts.{Put, put-none, put-length, put-then}
 use Rattle.text.specs.Within.{Within}
 use Rattle.lines.specs.Lines.{longest}
@@ -47,7 +47,7 @@ module _ {bytes : List ℕ} {number : ℕ} {before : List ℕ} {start end k : �
   through-room some wide = omega (arith, t .room, t .cut some, put-length (t .put))
 
   -- one record more
-  pub through-next : {last next : ℕ} {after : List ℕ} → next ≡ min (start + recordBytes) (length bytes) → start < length bytes → k < mostRecords → roomFor bytes ≤ length before
+  pub through-next : {last next : ℕ} {after : List ℕ} → next ≡ recordEnd bytes start → start < length bytes → k < mostRecords → roomFor bytes ≤ length before
       → Within longest out end (line k (recordAnswer (take (next - start) (drop start bytes)))) last after
       → Through bytes number before next last (k + 1) after
   through-next {last} {next} {after} e some few wide written =
