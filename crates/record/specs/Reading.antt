@@ -10,10 +10,10 @@ use Rattle.rules.specs.Refusals as rules
 use Rattle.rules.specs.Record as records
 use Rattle.refusal.specs.Number.{refusalOf}
 use Rattle.word.specs.Words.{wordOf}
-use Rattle.record.specs.declared.read.Fields.{Fields}
-use Rattle.record.specs.declared.read.Verdict.{Verdict}
-use Rattle.record.specs.declared.read.Verdict.the-variants.{Read, Refused}
-use Rattle.record.specs.declared.read.Answer.{Answer}
+use Rattle.record.specs.declared.Fields.{Fields}
+use Rattle.record.specs.declared.Verdict.{Verdict}
+use Rattle.record.specs.declared.Verdict.the-variants.{Read, Refused}
+use Rattle.record.specs.declared.Answer.{Answer}
 
 -- the fields as the rules have them
 abbrev pub fieldsIn : Fields → records.Fields

@@ -4,10 +4,10 @@ use Rattle.rules.specs.Record as records
 use Rattle.refusal.specs.Unique.{refusal-injective}
 use Rattle.word.specs.Unique.{word-injective}
 use Rattle.record.specs.Reading.{fieldsIn, verdictOn, answerOf}
-use Rattle.record.specs.declared.read.Fields.{Fields}
-use Rattle.record.specs.declared.read.Verdict.{Verdict}
-use Rattle.record.specs.declared.read.Verdict.the-variants.{Read, Refused}
-use Rattle.record.specs.declared.read.Answer.{Answer}
+use Rattle.record.specs.declared.Fields.{Fields}
+use Rattle.record.specs.declared.Verdict.{Verdict}
+use Rattle.record.specs.declared.Verdict.the-variants.{Read, Refused}
+use Rattle.record.specs.declared.Answer.{Answer}
 
 fields-injective : (r s : Fields) → fieldsIn r ≡ fieldsIn s → r ≡ s
 fields-injective r s same i =

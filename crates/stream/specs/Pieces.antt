@@ -6,7 +6,7 @@ use lib.Dec.{leb, ltb}
 use lib.ListN.{length, take, drop}
 use Rattle.rules.specs.Record.{recordBytes}
 use Rattle.rules.specs.Text.{mostRecords, textFrom}
-use Rattle.record.specs.Lines.{longest}
+use Rattle.lines.specs.Lines.{longest}
 use Rattle.stream.specs.declared.Passed.{Passed}
 use Rattle.stream.specs.declared.Passed.the-variants as passed
 use Rattle.stream.specs.declared.piece.Next.{Next}

@@ -3,10 +3,10 @@ ghost use mathlib.Core.Path.{_≡_};
 ghost use Prim.Native.Nat.{_≤_, _<_};
 ghost use lib.ListN.{length, take};
 ghost use Rattle.rules.specs.Text.{textFrom};
-ghost use Rattle.record.specs.Lines.{Put};
+ghost use Rattle.text.specs.Puts.{Put};
 ghost use Rattle.stream.specs.Pieces.{mostBytes, mostRoom, pieceBytes, takenOf, nextPiece};
-use record::piece::MOST_RECORDS;
-use record::piece::Written;
+use lines::piece::MOST_RECORDS;
+use lines::piece::Written;
 
 // How many records a piece has at the most, and the bytes of one.
 const RECORDS: u32 = 200;
@@ -52,7 +52,7 @@ pub fn lines_of(bytes: &[u8], taken: usize, number: u32, out: &mut [u8]) -> usiz
     ensures { λ r. ⌜ Put (now (out .entry)) 0 (textFrom number (take taken (now (bytes .entry)))) r (now (out .exit)) ⌝ }
     ensures { λ r. ⌜ r ≤ length (now (out .entry)) ⌝ }
 {
-    match record::piece::lines(&bytes[..taken], number, out) {
+    match lines::piece::lines(&bytes[..taken], number, out) {
         Written::Lines(len) => len,
         Written::NoRoom => 0,
     }

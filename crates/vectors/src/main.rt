@@ -9,7 +9,7 @@ mod decoding;
 mod encoding;
 mod given;
 mod line;
-mod lines;
+mod pieces;
 mod records;
 mod samples;
 mod words;
@@ -28,7 +28,7 @@ fn answer(line: &[u8], name: usize) {
         8 => assembling::give(line),
         9 => records::record(line, false),
         10 => records::record(line, true),
-        11 => lines::lines(line),
+        11 => pieces::lines(line),
         _ => words::answer(line),
     }
 }

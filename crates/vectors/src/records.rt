@@ -2,8 +2,8 @@
 use crate::decoding;
 use crate::given;
 use crate::line;
-use record::read::Fields;
-use record::read::Verdict;
+use record::Fields;
+use record::Verdict;
 
 fn fields(fields: Fields) {
     printing::number(b" -> n=", fields.n as u64);
@@ -15,7 +15,7 @@ fn fields(fields: Fields) {
 }
 
 fn read_of(bytes: &[u8]) {
-    let answer = record::read::read(bytes);
+    let answer = record::read(bytes);
     let verdict = answer.verdict;
     match verdict {
         Verdict::Read => fields(answer.fields),
@@ -25,7 +25,7 @@ fn read_of(bytes: &[u8]) {
 
 fn answer(bytes: &[u8], decodes: bool) {
     if decodes {
-        decoding::answer(record::block::decode(bytes));
+        decoding::answer(lines::block::decode(bytes));
     } else {
         read_of(bytes);
     }

@@ -1,13 +1,14 @@
--- The text of bytes: none, its first record apart, past the last record number, and cut after whole records: the text of the first
--- part, then that of the second from the next number on.
+-- The text of bytes: none, its first record apart, from a place on, past the last record number, and cut after whole records: the
+-- text of the first part, then that of the second from the next number on.
 use Prim.Native.Nat.{ℕ, zero, suc, _+_, _-_, _*_, _≤_, _<_, min}
 use mathlib.Core.Path.{_≡_, refl, sym, _∙_, ap}
 use mathlib.Core.List.{List, [], _∷_, _++_, append-assoc}
 use native.Mathlib.Nat.{add-zero, sub-zero, zero-sub}
 use native.Mathlib.Decide.{decLe}
+use native.Mathlib.Numerals.{add-one}
 use native.Mathlib.Omega.{arith}
-use lib.ListN.{length, take, drop, length-drop}
-use lib.Seq.{take-append-le, drop-append-le}
+use lib.ListN.{length, take, drop, length-drop, drop-of-length-le}
+use lib.Seq.{drop-drop, take-all, take-append-le, drop-append-le}
 use Rattle.rules.specs.Record.{recordBytes, recordAnswer}
 use Rattle.rules.specs.Text.{line, recordsUpTo, linesFrom, mostRecords, textFrom}
 
@@ -62,13 +63,52 @@ unfolding textFrom linesFrom
 text-none number = rw (records-none (mostRecords - number))
 
 -- the first record's line, then the text of the bytes after it
-pub text-step : (number : ℕ) (bytes : List ℕ) → number < mostRecords → 0 < length bytes
+text-step : (number : ℕ) (bytes : List ℕ) → number < mostRecords → 0 < length bytes
     → textFrom number bytes ≡ line number (recordAnswer (take recordBytes bytes)) ++ textFrom (suc number) (drop recordBytes bytes)
 unfolding textFrom recordsUpTo linesFrom
 text-step number [] l some = absurd (omega arith)
 text-step number (x ∷ xs) l some =
     let e : mostRecords - number ≡ suc (mostRecords - suc number) = omega arith in
     rw e
+
+-- where the record that begins at a place ends: after its bytes, or where the bytes end
+abbrev pub recordEnd : List ℕ → ℕ → ℕ
+recordEnd bytes start = min (start + recordBytes) (length bytes)
+
+-- the bytes after it
+end-drop : (bytes : List ℕ) (start : ℕ) → drop (recordEnd bytes start) bytes ≡ drop recordBytes (drop start bytes)
+end-drop bytes start = go (decLe (start + recordBytes) (length bytes)) ∙ sym (drop-drop recordBytes start bytes)
+  where
+    go : Dec (start + recordBytes ≤ length bytes) → drop (recordEnd bytes start) bytes ≡ drop (start + recordBytes) bytes
+    go (yes l) =
+        let e : recordEnd bytes start ≡ start + recordBytes = omega arith in
+        rw e
+    go (no l) =
+        drop-of-length-le bytes {i = recordEnd bytes start} (omega arith)
+        ∙ sym (drop-of-length-le bytes {i = start + recordBytes} (omega arith))
+
+-- the bytes of it
+end-take : (bytes : List ℕ) (start : ℕ) → start ≤ length bytes
+    → take (recordEnd bytes start - start) (drop start bytes) ≡ take recordBytes (drop start bytes)
+end-take bytes start inside = go (decLe (start + recordBytes) (length bytes))
+  where
+    go : Dec (start + recordBytes ≤ length bytes) → take (recordEnd bytes start - start) (drop start bytes) ≡ take recordBytes (drop start bytes)
+    go (yes l) =
+        let e : recordEnd bytes start - start ≡ recordBytes = omega arith in
+        rw e
+    go (no l) =
+        let short : length (drop start bytes) ≡ length bytes - start = length-drop start bytes in
+        take-all (recordEnd bytes start - start) (drop start bytes) (omega (arith, short))
+        ∙ sym (take-all recordBytes (drop start bytes) (omega (arith, short)))
+
+-- the text from a place on: the line of the record that begins there, then the text from its end on
+pub text-from : (number start end : ℕ) (bytes : List ℕ) → end ≡ recordEnd bytes start → number < mostRecords → start < length bytes
+    → textFrom number (drop start bytes)
+    ≡ line number (recordAnswer (take (end - start) (drop start bytes))) ++ textFrom (number + 1) (drop end bytes)
+text-from number start end bytes e few some =
+    let left : length (drop start bytes) ≡ length bytes - start = length-drop start bytes in
+    rw (e, end-take bytes start (omega arith), end-drop bytes start, add-one number)
+    (text-step number (drop start bytes) few (omega (arith, left)))
 
 -- any cutting of bytes after whole records gives one text
 pub text-append : (number whole : ℕ) (a b : List ℕ) → length a ≡ whole * recordBytes

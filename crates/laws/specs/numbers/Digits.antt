@@ -12,7 +12,7 @@ use lib.ListN.{length, length-append}
 use lib.Pow.{pow-add}
 use borrow.Author.Tests.{lt-ltb, le-ltb, ltb-false}
 use Rattle.rules.specs.Below.{choose}
-use Rattle.rules.specs.Text.{digit, decimalUpTo, decimal, hex}
+use Rattle.rules.specs.Text.{digit, decimalUpTo, decimal, space, hex}
 
 -- any bound above the number serves
 enough : (a b v : ℕ) → v < a → v < b → decimalUpTo a v ≡ decimalUpTo b v
@@ -48,7 +48,7 @@ pub decimal-more-length : (v : ℕ) → 10 ≤ v → length (decimal v) ≡ leng
 decimal-more-length v l = ap length (decimal-more v l) ∙ length-append (decimal (v / 10)) (digit (v % 10) ∷ [])
 
 -- a number below a power of ten has no more digits than its exponent
-pub decimal-length : (k v : ℕ) → v < 10 ^ suc k → length (decimal v) ≤ suc k
+decimal-length : (k v : ℕ) → v < 10 ^ suc k → length (decimal v) ≤ suc k
 decimal-length zero v l = rw (decimal-one v l) (omega arith)
 decimal-length (suc k) v l =
     go (decLt v 10) (decimal-length k (v / 10) (omega (arith, pow-succ' 10 (suc k))))
@@ -56,6 +56,14 @@ decimal-length (suc k) v l =
     go : Dec (v < 10) → length (decimal (v / 10)) ≤ suc k → length (decimal v) ≤ suc (suc k)
     go (yes small) shorter = rw (decimal-one v small) (omega arith)
     go (no large) shorter = omega (arith, decimal-more-length v (omega arith))
+
+-- a number of 32 bits has at most 10 digits
+pub ten-digits : (v : ℕ) → v < 2 ^ 32 → length (decimal v) ≤ 10
+ten-digits v l = decimal-length 9 v (omega arith)
+
+-- and with a space before it 11 bytes
+pub spaced-short : (v : ℕ) → v < 2 ^ 32 → length (space ++ decimal v) ≤ 11
+spaced-short v l = omega (arith, ten-digits v l)
 
 -- so many hexadecimal digits
 pub hex-length : (count v : ℕ) → length (hex count v) ≡ count

@@ -4,10 +4,10 @@ use mathlib.Core.Path.{_≡_, sym}
 use mathlib.Core.List.{List}
 use lib.ListN.{length, take, length-take}
 use Rattle.rules.specs.Text.{textFrom}
-use Rattle.record.specs.Lines.{Put}
-use Rattle.record.specs.Pieces.{Piece}
-use Rattle.record.specs.declared.piece.Written.{Written}
-use Rattle.record.specs.declared.piece.Written.the-variants.{Lines, NoRoom}
+use Rattle.text.specs.Puts.{Put}
+use Rattle.lines.specs.Pieces.{Piece}
+use Rattle.lines.specs.declared.piece.Written.{Written}
+use Rattle.lines.specs.declared.piece.Written.the-variants.{Lines, NoRoom}
 use Rattle.stream.specs.Pieces.{mostBytes, mostRoom}
 use native.Mathlib.Omega.{arith}
 use lib.Seq.{sets, length-take-le}
