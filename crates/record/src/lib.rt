@@ -14,12 +14,15 @@ use word::Word;
 
 const RECORD_BYTES: usize = 144;
 
+// How many levels a record has, whatever its n.
+const RECORD_SLOTS: usize = 64;
+
 pub struct Fields {
     pub n: u32,
     pub folding: u32,
     pub allowance: u32,
     pub mask: Word,
-    pub levels: [i32; 64],
+    pub levels: [i32; RECORD_SLOTS],
 }
 
 pub enum Verdict {
@@ -79,13 +82,13 @@ fn level(bytes: &[u8], slot: usize) -> i32
 }
 
 // The levels of all slots.
-fn levels(bytes: &[u8]) -> [i32; 64]
+fn levels(bytes: &[u8]) -> [i32; RECORD_SLOTS]
     requires { ⌜ recordBytes ≤ length (now bytes) ⌝ }
     ensures { λ r. ⌜ r ≡ map (slotLevel (now (bytes .entry))) (listBelow recordSlots (λ i. true)) ⌝ }
 {
-    let mut levels = [0i32; 64];
+    let mut levels = [0i32; RECORD_SLOTS];
     let mut i = 0;
-    while i < 64 {
+    while i < RECORD_SLOTS {
         levels[i] = level(bytes, i);
         i += 1;
     }
@@ -101,7 +104,7 @@ fn zeros(bytes: &[u8], slots: usize) -> bool
         return false;
     }
     let mut i = slots;
-    while i < 64 {
+    while i < RECORD_SLOTS {
         if two(bytes, 16 + 2 * i) != 0 {
             return false;
         }
@@ -121,7 +124,7 @@ fn refused(refusal: Refusal) -> Answer
             folding: 0,
             allowance: 0,
             mask: word::none(),
-            levels: [0i32; 64],
+            levels: [0i32; RECORD_SLOTS],
         },
     }
 }

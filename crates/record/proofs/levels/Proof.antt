@@ -8,20 +8,20 @@ use mir.Syntax.{w32}
 use mir.ValLaws.{toZ-ofZ}
 use borrow.Author.Count.{below-none}
 use borrow.Author.Needs.{needs}
-use Rattle.rules.specs.Record.{slotLevel}
+use Rattle.rules.specs.Record.{slotLevel, recordSlots}
 use Rattle.laws.specs.numbers.Each.{each-stored, each-all}
 use Rattle.record.proofs.levels.Statement.{statement}
 use Rattle.record.proofs.levels.Tie as tie
 
 abbrev Inv-loop : tie.InvT-loop
 Inv-loop bytes levels₀ i₀ levels i =
-    (i ≤ 64) × (length levels ≡ 64) × ((k : ℕ) → k < i → getD levels k (pos 0) ≡ slotLevel bytes k)
+    (i ≤ recordSlots) × (length levels ≡ recordSlots) × ((k : ℕ) → k < i → getD levels k (pos 0) ≡ slotLevel bytes k)
 
 abbrev μ-loop : tie.MeasureT-loop
-μ-loop bytes levels₀ i₀ levels i = 64 - i
+μ-loop bytes levels₀ i₀ levels i = recordSlots - i
 
 loop-holds : tie.Need-loop-holds Inv-loop μ-loop
-loop-holds c = (omega arith, length-replicate 64 (pos 0), below-none _)
+loop-holds c = (omega arith, length-replicate recordSlots (pos 0), below-none _)
 
 level-requires : tie.Need-level-requires Inv-loop μ-loop
 level-requires c κs = search needs
@@ -51,7 +51,7 @@ loop-again c =
 returns : tie.Need-returns Inv-loop μ-loop
 returns c =
     let inv = c .before .loop .inv in
-    each-all (slotLevel _) (pos 0) _ 64 (inv .1) (λ j l. inv .2 j (omega arith))
+    each-all (slotLevel _) (pos 0) _ recordSlots (inv .1) (λ j l. inv .2 j (omega arith))
 
 pub levels-spec : {M : Type 1} → statement M
 levels-spec =

@@ -7,7 +7,7 @@ use native.Mathlib.Omega.{arith}
 use lib.Dec.{ltb, eqb}
 use borrow.Author.Count.{below-more}
 use borrow.Author.Tests.{lt-ltb, le-ltb, eq-eqb, ne-eqb}
-use Rattle.rules.specs.Record.{numberAt}
+use Rattle.rules.specs.Record.{numberAt, recordSlots}
 use Rattle.laws.specs.numbers.Sums.{all-of, all-fails}
 use Rattle.record.proofs.zeros.Statement.{statement}
 use Rattle.record.proofs.zeros.Tie as tie
@@ -20,7 +20,7 @@ abbrev Inv-loop : tie.InvT-loop
 Inv-loop bytes slots i₀ i = (slots ≤ i) × ((k : ℕ) → k < i → quiet bytes slots k ≡ true)
 
 abbrev μ-loop : tie.MeasureT-loop
-μ-loop bytes slots i₀ i = 64 - i
+μ-loop bytes slots i₀ i = recordSlots - i
 
 -- bytes 2 and 3
 read-first : (c : tie.After-two Inv-loop μ-loop) → c .two .result ≡ numberAt (c .before .before .args .bytes .now) 2 2
@@ -49,7 +49,7 @@ returns-2 c =
     let loop = c .before .before .before .loop in
     let args = c .before .before .before .before .before .before .before .args in
     let failed =
-    all-fails 64 (quiet (args .bytes .now) (args .slots)) (loop .i) (omega arith)
+    all-fails recordSlots (quiet (args .bytes .now) (args .slots)) (loop .i) (omega arith)
     (rw (le-ltb _ _ (loop .inv .0), ne-eqb _ 0 (λ e. c .if2 .taken (c .before .two2 .ensures ∙ e))))
     in
     rw (eq-eqb _ 0 (sym (read-first (c .before .before .before .before .before)) ∙ c .before .before .before .before .if1 .left), failed)
@@ -71,7 +71,7 @@ returns-3 : tie.Need-returns-3 Inv-loop μ-loop
 returns-3 c =
     rw (
       eq-eqb _ 0 (sym (read-first (c .before .before .before)) ∙ c .before .before .if1 .left),
-      all-of 64 (quiet _ _) (λ i l. c .before .loop .inv .1 i (omega arith)),
+      all-of recordSlots (quiet _ _) (λ i l. c .before .loop .inv .1 i (omega arith)),
     )
 
 pub zeros-spec : {M : Type 1} → statement M
