@@ -2,6 +2,7 @@
 ghost use mathlib.Core.Path.{_≡_};
 ghost use Prim.Native.Nat.{_<_};
 ghost use lib.ListN.{length};
+use level::LIMIT;
 
 // The next state of the generator.
 fn next(state: u64) -> u64
@@ -19,8 +20,8 @@ fn level(number: u64) -> i32 {
         2 => 256,
         3 => 255,
         4 => -255,
-        5 => 1024,
-        _ => -1024,
+        5 => LIMIT,
+        _ => -LIMIT,
     }
 }
 

@@ -1,7 +1,9 @@
 // Document 01's rules of words and distance, straight from its sentences, for words of up to 16 bits.
-ghost use Prim.Native.Nat.{_<_, _≤_};
+ghost use Prim.Native.Nat.{_+_, _*_, _<_, _≤_};
 ghost use lib.IntN.{natAbs};
 ghost use lib.ListN.{length};
+ghost use Rattle.rules.specs.Level.{limit};
+use level::LIMIT;
 
 // Bit i of a word.
 fn bit(w: u64, i: usize) -> u64
@@ -48,15 +50,15 @@ fn ideal(b: u64) -> i32
     if b == 1 { 256 } else { -256 }
 }
 
-// (level - ideal)², for a level from -1024 to 1024.
+// (level - ideal)², for a level in range.
 fn part(level: i32, ideal: i32) -> u32
     requires { ⌜ natAbs ideal ≤ 256 ⌝ }
-    ensures { λ r. ⌜ r ≤ 1638400 ⌝ }
+    ensures { λ r. ⌜ r ≤ (limit + 256) * (limit + 256) ⌝ }
 {
-    if level < -1024 {
+    if level < -LIMIT {
         return 0;
     }
-    if 1024 < level {
+    if LIMIT < level {
         return 0;
     }
     let gap = level - ideal;

@@ -1,13 +1,14 @@
--- `listing::rule::distance` is safe and ends: a slot adds at most 1280².
-use Prim.Native.Nat.{_≤_, _*_, _-_}
+-- `listing::rule::distance` is safe and ends: a slot adds at most (limit + 256)².
+use Prim.Native.Nat.{_≤_, _+_, _*_, _-_}
 use mathlib.Core.Path.{_≡_}
 use lib.ListN.{length}
 use borrow.Author.Needs.{needs}
+use Rattle.rules.specs.Level.{limit}
 use Rattle.listing.proofs.rule.distance.Statement.{statement}
 use Rattle.listing.proofs.rule.distance.Tie as tie
 
 abbrev Inv-loop : tie.InvT-loop
-Inv-loop levels x sum₀ i₀ i-end sum i = (i ≤ length levels) × (i-end ≡ length levels) × (sum ≤ 1638400 * i)
+Inv-loop levels x sum₀ i₀ i-end sum i = (i ≤ length levels) × (i-end ≡ length levels) × (sum ≤ (limit + 256) * (limit + 256) * i)
 
 abbrev μ-loop : tie.MeasureT-loop
 μ-loop levels x sum₀ i₀ i-end sum i = i-end - i

@@ -1,5 +1,5 @@
--- `listing::rule::part` meets its contract: the level is in range, so the gap is at most 1280, and its square fits.
-use Prim.Native.Nat.{ℕ, suc, zero, _*_, _≤_}
+-- `listing::rule::part` meets its contract: the level is in range, so that the gap and its square fit.
+use Prim.Native.Nat.{ℕ, suc, zero, _+_, _-_, _*_, _≤_}
 use mathlib.Core.Path.{_≡_, refl}
 use mathlib.Core.Bool.{Bool, true, false}
 use native.Mathlib.Nat.{mul-le-mul}
@@ -12,13 +12,14 @@ use lib.Signed.{ltZ}
 use mir.Syntax.{w32}
 use mir.Val.{SFits, ofZ, toZ}
 use mir.ValLaws.{toZ-ofZ}
+use Rattle.rules.specs.Level.{limit}
 use Rattle.listing.proofs.rule.part.Statement.{statement}
 use Rattle.listing.proofs.rule.part.Tie as tie
 
 -- what the two tests say
-in-range : (z : ℤ) → ltZ z (negsuc 1023) ≡ false → ltZ (pos 1024) z ≡ false → natAbs z ≤ 1024
-in-range (pos n) low high = omega (arith, ltb-false 1024 n high)
-in-range (negsuc n) low high = omega (arith, ltb-false 1023 n low)
+in-range : (z : ℤ) → ltZ z (negsuc (limit - 1)) ≡ false → ltZ (pos limit) z ≡ false → natAbs z ≤ limit
+in-range (pos n) low high = omega (arith, ltb-false limit n high)
+in-range (negsuc n) low high = omega (arith, ltb-false (limit - 1) n low)
 
 abs-neg : (z : ℤ) → natAbs (negℤ z) ≡ natAbs z
 abs-neg (pos zero) = refl
@@ -32,13 +33,13 @@ abs-sub a b k h l = go (ltb a b) refl
     go true e = rw e (omega (arith, ltb-true a b e))
     go false e = rw e (omega arith)
 
-abs-add : (z y : ℤ) → natAbs z ≤ 1024 → natAbs y ≤ 256 → natAbs (z +ℤ y) ≤ 1280
+abs-add : (z y : ℤ) → natAbs z ≤ limit → natAbs y ≤ 256 → natAbs (z +ℤ y) ≤ limit + 256
 abs-add (pos a) (pos b) h l = omega arith
-abs-add (pos a) (negsuc b) h l = abs-sub a (suc b) 1280 (omega arith) (omega arith)
-abs-add (negsuc a) (pos b) h l = abs-sub b (suc a) 1280 (omega arith) (omega arith)
+abs-add (pos a) (negsuc b) h l = abs-sub a (suc b) (limit + 256) (omega arith) (omega arith)
+abs-add (negsuc a) (pos b) h l = abs-sub b (suc a) (limit + 256) (omega arith) (omega arith)
 abs-add (negsuc a) (negsuc b) h l = omega arith
 
-fits : (z : ℤ) → natAbs z ≤ 1638400 → SFits w32 z
+fits : (z : ℤ) → natAbs z ≤ (limit + 256) * (limit + 256) → SFits w32 z
 fits (pos n) h = record { sfits = omega arith }
 fits (negsuc n) h = record { sfits = omega arith }
 
@@ -46,8 +47,8 @@ square : (z : ℤ) → z *ℤ z ≡ pos (natAbs z * natAbs z)
 square (pos n) = refl
 square (negsuc n) = refl
 
-module _ (z w : ℤ) (f : SFits w32 z) (g : SFits w32 w) (h : natAbs z ≤ 1024) (l : natAbs w ≤ 256) where
-  gap-le : natAbs (z -ℤ w) ≤ 1280
+module _ (z w : ℤ) (f : SFits w32 z) (g : SFits w32 w) (h : natAbs z ≤ limit) (l : natAbs w ≤ 256) where
+  gap-le : natAbs (z -ℤ w) ≤ limit + 256
   gap-le = abs-add z (negℤ w) h (rw (abs-neg w) l)
 
   gap-fits : SFits w32 (toZ w32 (ofZ w32 z) -ℤ toZ w32 (ofZ w32 w))
@@ -59,7 +60,7 @@ module _ (z w : ℤ) (f : SFits w32 z) (g : SFits w32 w) (h : natAbs z ≤ 1024)
   abbrev side : ℕ
   side = natAbs (z -ℤ w)
 
-  square-le : side * side ≤ 1638400
+  square-le : side * side ≤ (limit + 256) * (limit + 256)
   square-le = omega (arith, mul-le-mul gap-le gap-le)
 
   abbrev gap : ℤ
@@ -74,13 +75,16 @@ module _ (z w : ℤ) (f : SFits w32 z) (g : SFits w32 w) (h : natAbs z ≤ 1024)
   product-read : toZ w32 (ofZ w32 (gap *ℤ gap)) ≡ pos (side * side)
   product-read = rw product (toZ-ofZ w32 (pos (side * side)) (fits (pos (side * side)) square-le))
 
+sub-if1 : tie.Need-sub-if1
+sub-if1 c = search needs
+
 returns : tie.Need-returns
 returns c = search needs
 
 returns-2 : tie.Need-returns-2
 returns-2 c = search needs
 
-level-le : (c : tie.Else2) → natAbs (c .before .before .args .level) ≤ 1024
+level-le : (c : tie.Else2) → natAbs (c .before .before .args .level) ≤ limit
 level-le c =
     let s = c .before .before in
     let read = toZ-ofZ w32 (s .args .level) (s .fits .level) in
@@ -109,4 +113,4 @@ returns-3 c =
     (square-le (s .args .level) (s .args .ideal) (s .fits .level) (s .fits .ideal) (level-le c) (s .pre))
 
 pub part-spec : {M : Type 1} → statement M
-part-spec = tie.close (tie.spec returns returns-2 sub-gap mul-result cast-result returns-3)
+part-spec = tie.close (tie.spec sub-if1 returns returns-2 sub-gap mul-result cast-result returns-3)
