@@ -213,22 +213,7 @@ node-returns-5 : (t : ℕ) → node-lts.Need-returns-5 (claims t) (node-at t) no
 node-returns-5 t c = trying-end (c .before .loop .inv) (c .loop-test .left)
 
 pub +node-spec : {M : Type 1} → statement M
-+node-spec = close μ-node λ t. node-lts.spec (
-  keep-word-reads.Asked,
-  keep-word-reads.Learnt,
-  entry-reads.Asked,
-  entry-reads.Learnt,
-  changed-reads.Asked,
-  changed-reads.Learnt,
-  is-open-reads.Asked,
-  is-open-reads.Learnt,
-  used-up-reads.Asked,
-  used-up-reads.Learnt,
-  farther-reads.Asked,
-  farther-reads.Learnt,
-  node-below t,
-  node.Post,
-)
++node-spec = close μ-node λ t. node-lts.spec (claims t)
     (node-at t)
     node.Post
     node-Inv-loop
