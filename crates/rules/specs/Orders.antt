@@ -30,11 +30,14 @@ foldingOrder n folding = wrongFolding n folding ∷ wideFolding folding ∷ []
 unfoldable pub foldedOrder : ℕ → ℕ → ℕ → List (Option Refusal)
 foldedOrder n mask folding = codeOrder n mask ++ foldingOrder n folding
 
+-- 7, 8: the tests of the walk, once the levels are in range
+abbrev pub searchOrder : ℕ → List ℤ → ℕ → ℕ → ℕ → List (Option Refusal)
+searchOrder n levels mask folding allowance =
+    noCandidate n mask folding ∷ smallAllowance allowance (walkVisits n mask (levelCost levels) folding) ∷ []
+
 -- 6, 7, 8: the tests of the levels and of the walk over them, with which decoding and a record end
 unfoldable pub walkOrder : ℕ → List ℤ → ℕ → ℕ → ℕ → List (Option Refusal)
-walkOrder n levels mask folding allowance =
-    outOfRange n levels ∷ noCandidate n mask folding
-    ∷ smallAllowance allowance (walkVisits n mask (levelCost levels) folding) ∷ []
+walkOrder n levels mask folding allowance = outOfRange n levels ∷ searchOrder n levels mask folding allowance
 
 -- "Decode: 1 to 6, then 7, 8."
 unfoldable pub decodeOrder : ℕ → List ℤ → ℕ → ℕ → ℕ → List (Option Refusal)

@@ -2,13 +2,13 @@
 use Prim.Native.Nat.{ℕ, _^_, _≤_, _<_}
 use mathlib.Core.Path.{_≡_}
 use mathlib.Core.Bool.{true}
-use mathlib.Core.List.{List, [], _∷_}
+use mathlib.Core.List.{List}
 use lib.Count.{ones}
 use lib.IntN.{ℤ}
 use lib.ListN.{length}
-use Rattle.rules.specs.Level.{inRange, levelAt, levelCost}
-use Rattle.rules.specs.Walk.{walkVisits}
-use Rattle.rules.specs.Refusals.{Answer, answer, noCandidate, smallAllowance, largest}
+use Rattle.rules.specs.Level.{inRange, levelAt}
+use Rattle.rules.specs.Refusals.{Answer, answer, largest}
+use Rattle.rules.specs.Orders.{searchOrder}
 use Rattle.rules.specs.Answers.{Decoded, decoded}
 
 -- what refusals 1, 2, 4, 5 and 6 let pass
@@ -22,5 +22,4 @@ pub record Searchable (n : ℕ) (levels : List ℤ) (folding : ℕ) : Type 0 whe
 -- refusals 7 and 8, or the decoding
 unfoldable pub searchAnswer : ℕ → List ℤ → ℕ → ℕ → ℕ → Answer Decoded
 searchAnswer n levels mask folding allowance =
-    answer (noCandidate n mask folding ∷ smallAllowance allowance (walkVisits n mask (levelCost levels) folding) ∷ [])
-    (decoded n levels mask folding)
+    answer (searchOrder n levels mask folding allowance) (decoded n levels mask folding)

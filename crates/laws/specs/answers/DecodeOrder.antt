@@ -15,7 +15,7 @@ use Rattle.rules.specs.Level.{inRange, levelAt, levelCost}
 use Rattle.rules.specs.Folding.{group, groups}
 use Rattle.rules.specs.Walk.{fillings, walkVisits}
 use Rattle.rules.specs.Refusals.{Refusal, refused, answer, refuse, refuseAt, isEmpty, wrongSize, wrongLength, wrongMask, outOfRange, noCandidate, smallAllowance}
-use Rattle.rules.specs.Orders.{codeOrder, foldingOrder, foldedOrder, walkOrder, decodeOrder}
+use Rattle.rules.specs.Orders.{codeOrder, foldingOrder, foldedOrder, searchOrder, walkOrder, decodeOrder}
 use Rattle.laws.specs.numbers.Sums.{none-at, none-of}
 use Rattle.laws.specs.walk.FillingCount.{unfrozenIn, fillings-number}
 use Rattle.laws.specs.answers.Orders.{Passed, passed, passed-done, parts, answer-after, answer-again, not-refused, not-refused-at, own-number-at, refused-after, FoldedRight, folded-right, folded-other, lentOrder, LentRight, lent-right, lent-other}
@@ -76,7 +76,7 @@ module _ (n : ℕ) (levels : List ℤ) (mask folding allowance : ℕ) where
   walk-gives-up a = (
     λ e.
         let six = refused-after (outOfRange n levels ∷ []) (6 ∷ []) (own-number-at 6 (firstBelow (2 ^ n) (λ i. not (inRange (levelAt levels i)))), tt)
-        (noCandidate n mask folding ∷ smallAllowance allowance (walkVisits n mask (levelCost levels) folding) ∷ []) a eight refl e
+        (searchOrder n levels mask folding allowance) a eight refl e
         in
         (range-right n levels .0 (six .0 .0), ltb-true allowance _ (is-eight _ a (rw (never-seven n mask folding) at (six .1)))),
     λ (ranged, short). rw (range-right n levels .1 ranged, never-seven n mask folding, lt-ltb allowance _ short),
