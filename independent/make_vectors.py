@@ -1,5 +1,6 @@
 #!/usr/bin/env python3
-"""Prints the lines of crates/vectors/stdout for the public calls of `light` and `record`.
+"""Prints the lines of crates/vectors/stdout for the public calls of `sample`, `light`, `record` and
+`lines`.
 
   make_vectors.py | diff - <(sed -n '/^level /,$p' crates/vectors/stdout)
 """
@@ -7,7 +8,7 @@ from fractions import Fraction
 
 from vector_records import *
 
-# ---------------------------------------------------------------- light.txt
+# ---------------------------------------------------------------- samples and light
 
 def light():
     out = []
@@ -117,7 +118,7 @@ def light():
     return out
 
 
-# ---------------------------------------------------------------- record.txt
+# ---------------------------------------------------------------- records and lines
 
 def changed(count, changes):
     raw = bytearray(DOC[0])

@@ -15,7 +15,7 @@ pub(crate) fn entry(table: &Table, start: usize, i: usize) -> u32
     table[row][at + i]
 }
 
-// Another one there.
+// Another entry there.
 pub(crate) fn store(table: &mut Table, start: usize, i: usize, value: u32)
     requires { ⌜ (start < capacity) × (start % 256 + i < 256) ⌝ }
     ensures { λ _. ⌜ now (table .exit) ≡ put (now (table .entry)) (start + i) value ⌝ }

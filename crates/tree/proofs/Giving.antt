@@ -16,6 +16,8 @@ use Rattle.rules.specs.Refusals.{largest}
 use Rattle.laws.specs.numbers.Sums.{sum-le, sum-const}
 use Rattle.laws.specs.rows.SortedRows.{row-cong}
 use Rattle.laws.specs.distance.Excess.{excess, nearest, excess-greatest, nearest-greatest, excess-one-bit}
+use Rattle.word.specs.Words.{Held, wordOf}
+use Rattle.word.specs.Tables.{stored-next}
 use Rattle.rows.specs.Adding.{adds, RowsRight}
 use Rattle.walk.specs.Nodes.{most}
 use Rattle.tree.specs.Slots.{SmallSeats, Levelled, SeatGives, GroupGives, Gives, Ranked, seatLevel, nearSum}
@@ -106,7 +108,7 @@ later-seats {levels} {index} k size l h =
     }
 
 -- no group yet
-pub all-none : {levels : List ℤ} {index : List ℕ} (size : ℕ) {zero one near : List ℕ} → SmallSeats zero → SmallSeats one
+pub all-none : {levels : List ℤ} {index : List ℕ} (size : ℕ) {zero one : List ℕ} {near : List Held} → SmallSeats zero → SmallSeats one
     → Gives levels index 0 size zero one near
 all-none size small-zero small-one =
     record {
@@ -117,15 +119,15 @@ all-none size small-zero small-one =
     }
 
 -- one group more
-pub all-next : {levels : List ℤ} {index : List ℕ} {k size : ℕ} {zero one near zero' one' : List ℕ} {r : ℕ} → Gives levels index k size zero one near
-    → GroupGives levels index (k * size) zero one size zero' one' r → length near ≡ 2 ^ largest → k < 2 ^ largest
-    → Gives levels index (k + 1) size zero' one' (set near k r)
-all-next {levels} {index} {k} {size} {zero} {one} {near} {zero'} {one'} {r} all group long few =
+pub all-next : {levels : List ℤ} {index : List ℕ} {k size : ℕ} {zero one zero' one' : List ℕ} {near : List Held} {r : ℕ}
+    → Gives levels index k size zero one near → GroupGives levels index (k * size) zero one size zero' one' r → (x : Held) → wordOf x ≡ r
+    → length near ≡ 2 ^ largest → k < 2 ^ largest → Gives levels index (k + 1) size zero' one' (set near k x)
+all-next {levels} {index} {k} {size} {zero} {one} {zero'} {one'} {near} {r} all group x is long few =
     record {
       own = λ seat h. own seat h (decLt seat (k * size));
       small-zero = group .small-zero;
       small-one = group .small-one;
-      sums = λ j h. sum j h (ℕ-discrete j k);
+      sums = stored-next near k x (λ j. nearSum levels index (j * size) size) (rw long few) (is ∙ group .sum) (all .sums);
     }
   where
     own : (seat : ℕ) → seat < (k + 1) * size → Dec (seat < k * size) → SeatGives levels index zero' one' seat
@@ -136,12 +138,8 @@ all-next {levels} {index} {k} {size} {zero} {one} {near} {zero'} {one'} {r} all 
         let e : k * size + (seat - k * size) ≡ seat = omega arith in
         rw e at (group .own (seat - k * size) (omega (arith, add-mul k 1 size, one-mul size)))
 
-    sum : (j : ℕ) → j < k + 1 → Dec (j ≡ k) → getD (set near k r) j 0 ≡ nearSum levels index (j * size) size
-    sum j h (yes e) = rw e (getD-set-same near k r 0 (rw long few) ∙ group .sum)
-    sum j h (no n) = getD-set-other near k j r 0 n ∙ all .sums j (omega arith)
-
 -- the sorted rows of what is in the lists are those of what the bits cost more
-pub ranked : {levels : List ℤ} {index : List ℕ} (groups size : ℕ) {zeros units near : List ℕ} {table : List (List ℕ)}
+pub ranked : {levels : List ℤ} {index : List ℕ} (groups size : ℕ) {zeros units : List ℕ} {near : List Held} {table : List (List ℕ)}
     → Gives levels index groups size zeros units near → RowsRight zeros units groups size table → Ranked levels index groups size table near
 unfolding RowsRight
 ranked {levels} {index} groups size {zeros} {units} gives right =

@@ -12,6 +12,7 @@ use Rattle.rules.specs.Level.{inRange, levelAt}
 use Rattle.rules.specs.Refusals.{largest}
 use Rattle.laws.specs.distance.Excess.{excess, nearest}
 use Rattle.laws.specs.rows.SortedRows.{rowOf}
+use Rattle.word.specs.Words.{Held, wordAt}
 use Rattle.rows.specs.Table.{entryAt}
 use Rattle.rows.specs.Adding.{Small}
 
@@ -49,14 +50,14 @@ pub record GroupGives (levels : List ℤ) (index : List ℕ) (first : ℕ) (zero
   pub sum : near ≡ nearSum levels index first t
 
 -- all slots of so many groups are in the lists, and what the nearer bits of each group cost
-pub record Gives (levels : List ℤ) (index : List ℕ) (groups size : ℕ) (zero one near : List ℕ) : Type 0 where
+pub record Gives (levels : List ℤ) (index : List ℕ) (groups size : ℕ) (zero one : List ℕ) (near : List Held) : Type 0 where
   pub own : (seat : ℕ) → seat < groups * size → SeatGives levels index zero one seat
   pub small-zero : SmallSeats zero
   pub small-one : SmallSeats one
-  pub sums : (k : ℕ) → k < groups → getD near k 0 ≡ nearSum levels index (k * size) size
+  pub sums : (k : ℕ) → k < groups → wordAt near k ≡ nearSum levels index (k * size) size
 
 -- the table has the sorted row of each group by what its bits cost more, and the list what its nearer bits cost
-pub record Ranked (levels : List ℤ) (index : List ℕ) (groups size : ℕ) (table : List (List ℕ)) (near : List ℕ) : Type 0 where
+pub record Ranked (levels : List ℤ) (index : List ℕ) (groups size : ℕ) (table : List (List ℕ)) (near : List Held) : Type 0 where
   pub rows : (k j : ℕ) → k < groups → j < 2 ^ size
       → entryAt table size k j ≡ getD (rowOf (λ t b. excess (seatLevel levels index (k * size + t)) b) size) j 0
-  pub sums : (k : ℕ) → k < groups → getD near k 0 ≡ nearSum levels index (k * size) size
+  pub sums : (k : ℕ) → k < groups → wordAt near k ≡ nearSum levels index (k * size) size

@@ -37,7 +37,7 @@ fn search(n: u32, levels: &[i32], frozen: Word, folding: u32, allowance: u32) ->
     if empty < tree.groups {
         return Answer::Refused(Refusal::NoCandidate(empty));
     }
-    let mut tables = [[0u64; word::SLOTS]; 3];
+    let mut tables = [[word::none(); word::SLOTS]; 3];
     let rows = slot::rows(levels, &index, tree, &mut tables[walk::NEAR]);
     let change = groups::changes(&index, tree);
     tables[walk::COVERED] = groups::covered(&index, tree);

@@ -8,6 +8,7 @@ ghost use Rattle.rules.specs.Refusals.{largest};
 ghost use Rattle.groups.specs.Grouping.{Grouped};
 ghost use Rattle.tree.specs.Slots.{SmallSeats, Levelled, GroupGives, Gives, Ranked};
 use groups::Tree;
+use word::Word;
 
 // The level at a seat.
 fn seat_level(levels: &[i32], index: &[usize; word::SLOTS], seat: usize) -> i32
@@ -50,7 +51,7 @@ fn gives(
     tree: Tree,
     zero: &mut [u32; word::SLOTS],
     one: &mut [u32; word::SLOTS],
-    near: &mut [u64; word::SLOTS],
+    near: &mut [Word; word::SLOTS],
 )
     requires { ⌜ Grouped tree × Levelled (now levels) (now index) 0 (tree .groups * tree .size) ⌝ }
     requires { ⌜ SmallSeats (now zero) × SmallSeats (now one) × (length (now near) ≡ 2 ^ largest) ⌝ }
@@ -58,7 +59,7 @@ fn gives(
 {
     let mut k = 0;
     while k < tree.groups {
-        near[k] = group_gives(levels, index, k * tree.size, tree.size, zero, one);
+        near[k] = word::of(group_gives(levels, index, k * tree.size, tree.size, zero, one));
         k += 1;
     }
 }
@@ -68,7 +69,7 @@ pub(crate) fn rows(
     levels: &[i32],
     index: &[usize; word::SLOTS],
     tree: Tree,
-    near: &mut [u64; word::SLOTS],
+    near: &mut [Word; word::SLOTS],
 ) -> rows::Table
     requires { ⌜ Grouped tree × Levelled (now levels) (now index) 0 (tree .groups * tree .size) × (length (now near) ≡ 2 ^ largest) ⌝ }
     ensures { λ r. ⌜ Ranked (now (levels .entry)) (now (index .entry)) (tree .groups) (tree .size) r (now (near .exit)) ⌝ }

@@ -7,7 +7,6 @@ use native.Mathlib.Omega.{arith}
 use lib.Bits.{bitAnd, bitXor}
 use lib.Count.{ones}
 use lib.Dec.{eqb}
-use lib.ListN.{getD}
 use lib.Pow.{pow-pos, pow-mono}
 use Rattle.rules.specs.Word.{codeword}
 use Rattle.rules.specs.Folding as rules
@@ -33,7 +32,7 @@ use Rattle.groups.proofs.Tabling.{shape, size-small, all-indices, few-groups as
 in-table : {size : ℕ} (k : ℕ) → GroupSize size → suc k * size ≤ 2 ^ largest → k * 2 ^ size < capacity
 in-table k = by-size (λ (size : ℕ). suc k * size ≤ 2 ^ largest → k * 2 ^ size < capacity) (λ h. omega arith) (λ h. omega arith) (λ h. omega arith) (λ h. omega arith)
 
-module _ {rows : List (List ℕ)} {change : List Held} {tables : List (List ℕ)} {g : Tree} {k partial w : ℕ} {s : Walked}
+module _ {rows : List (List ℕ)} {change : List Held} {tables : List (List Held)} {g : Tree} {k partial w : ℕ} {s : Walked}
     (given : Given rows change tables g (suc k) partial w s) where
   grouped : Grouped g
   grouped = given .tabled .grouped
@@ -70,7 +69,7 @@ module _ {rows : List (List ℕ)} {change : List Held} {tables : List (List ℕ)
   forced = blockOf (g .size) k (codeword (g .n) (seat (g .n) (g .folding) (decided (g .n) (g .folding) (suc k) w)))
 
   abbrev pub nearer : ℕ
-  nearer = getD (nearIn tables) k 0
+  nearer = wordAt (nearIn tables) k
 
   abbrev pub closed : ℕ
   closed = blockOf (g .size) k (seat (g .n) (g .folding) (wordAt (shutIn tables) k))

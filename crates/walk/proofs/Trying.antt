@@ -43,19 +43,19 @@ abbrev pub decidedAt : Tree → ℕ → ℕ → ℕ
 decidedAt g left w = decided (g .n) (g .folding) left w
 
 -- the rules' walk of the levels that are left
-abbrev pub under : List (List ℕ) → List (List ℕ) → Tree → ℕ → ℕ → ℕ → Option (State keepBest) → Option (State keepBest)
+abbrev pub under : List (List ℕ) → List (List Held) → Tree → ℕ → ℕ → ℕ → Option (State keepBest) → Option (State keepBest)
 under rows tables g = walkIn keepBest (g .allowance) (rowCandidates rows tables g)
 
 -- what the rules do with the whole node
-abbrev pub wholly : List (List ℕ) → List (List ℕ) → Tree → ℕ → ℕ → ℕ → Option (State keepBest) → Option (State keepBest)
+abbrev pub wholly : List (List ℕ) → List (List Held) → Tree → ℕ → ℕ → ℕ → Option (State keepBest) → Option (State keepBest)
 wholly rows tables g left partial w = under rows tables g left partial (decidedAt g left w)
 
 -- what they do with candidates of group k, at a state
-abbrev pub trial : List (List ℕ) → List (List ℕ) → Tree → ℕ → ℕ → ℕ → List Candidate → Option (State keepBest) → Option (State keepBest)
+abbrev pub trial : List (List ℕ) → List (List Held) → Tree → ℕ → ℕ → ℕ → List Candidate → Option (State keepBest) → Option (State keepBest)
 trial rows tables g k partial w = visitIn keepBest (g .allowance) (under rows tables g k) partial (decidedAt g (suc k) w)
 
 -- the loop's invariant
-pub record Trying (rows : List (List ℕ)) (change : List Held) (tables : List (List ℕ)) (g : Tree) (left partial w k size entries base : ℕ)
+pub record Trying (rows : List (List ℕ)) (change : List Held) (tables : List (List Held)) (g : Tree) (left partial w k size entries base : ℕ)
     (first s : Walked) (j : ℕ) : Type 0 where
   pub given : Given rows change tables g (suc k) partial w first
   pub levels : left ≡ suc k
@@ -67,7 +67,7 @@ pub record Trying (rows : List (List ℕ)) (change : List Held) (tables : List (
   pub same : trial rows tables g k partial w (rest rows (g .n) (g .folding) (g .size) k (nearer given) (forced given) (closed given) j) (stateOf (g .allowance) s)
       ≡ wholly rows tables g left partial w (stateOf (g .allowance) first)
 
-module _ {rows : List (List ℕ)} {change : List Held} {tables : List (List ℕ)} {g : Tree} {left partial w k size entries base : ℕ} {first s : Walked} {j : ℕ}
+module _ {rows : List (List ℕ)} {change : List Held} {tables : List (List Held)} {g : Tree} {left partial w k size entries base : ℕ} {first s : Walked} {j : ℕ}
     (t : Trying rows change tables g left partial w k size entries base first s j) where
   -- the node's whole result
   abbrev whole : Option (State keepBest)
@@ -182,7 +182,7 @@ module _ {rows : List (List ℕ)} {change : List Held} {tables : List (List ℕ)
                     }
 
 -- a node with no level left keeps the word or not
-pub at-leaf : {rows : List (List ℕ)} {change : List Held} {tables : List (List ℕ)} {g : Tree} {left partial w : ℕ} {s : Walked}
+pub at-leaf : {rows : List (List ℕ)} {change : List Held} {tables : List (List Held)} {g : Tree} {left partial w : ℕ} {s : Walked}
     → Given rows change tables g left partial w s → left ≡ 0 → (back : Walked)
     → (keptOf back ≡ keep partial w (keptOf s)) × (back .visits ≡ s .visits)
     → stateOf (g .allowance) back ≡ wholly rows tables g left partial w (stateOf (g .allowance) s)
@@ -193,7 +193,7 @@ at-leaf {rows} {tables = tables} {g = g} {left} {partial} {w} {s} given none-lef
     ∙ sym (walk-last keepBest (g .allowance) (rowCandidates rows tables g) partial (decidedAt g 0 w) (runningOf s))
     ∙ ap₂ (λ (l : ℕ) (o : Option (State keepBest)). wholly rows tables g l partial w o) (sym none-left) (sym (running-state (g .allowance) s (given .running)))
 
-module _ {rows : List (List ℕ)} {change : List Held} {tables : List (List ℕ)} {g : Tree} {left partial w : ℕ} {s : Walked}
+module _ {rows : List (List ℕ)} {change : List Held} {tables : List (List Held)} {g : Tree} {left partial w : ℕ} {s : Walked}
     (given : Given rows change tables g left partial w s) (some-left : left ≡ 0 → ⊥) where
   levels-left : left ≡ suc (left - 1)
   levels-left = omega arith
@@ -202,15 +202,16 @@ module _ {rows : List (List ℕ)} {change : List Held} {tables : List (List ℕ)
   pub given-next : Given rows change tables g (suc (left - 1)) partial w s
   given-next = rw levels-left at given
 
-  -- the loop begins
-  pub trying-none : Trying rows change tables g left partial w (left - 1) (g .size) (1 * 2 ^ (g .size) % 2 ^ 64) (partial + nearer given-next) s s 0
-  trying-none =
+  -- the loop begins, with what the nearer bits cost as the code reads it
+  pub trying-none : (near : ℕ) → near ≡ nearer given-next
+      → Trying rows change tables g left partial w (left - 1) (g .size) (1 * 2 ^ (g .size) % 2 ^ 64) (partial + near) s s 0
+  trying-none near is =
       record {
         given = given-next;
         levels = levels-left;
         sized = refl;
         counted = power-shifted 64 (g .size) (omega (arith, narrow given-next));
-        based = refl;
+        based = ap (λ (x : ℕ). partial + x) is;
         tried = omega arith;
         running = given .running;
         same =

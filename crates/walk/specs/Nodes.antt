@@ -24,29 +24,29 @@ pub record Inside (size k j : ℕ) : Type 0 where
   pub group : k * 2 ^ size < capacity
   pub entry : j < 2 ^ size
 
--- the walk's tables: words for what each group covers and for its frozen indices, and plain numbers for what its nearer bits cost
+-- the walk's tables of words: what each group covers, its frozen indices, and the number that its nearer bits cost
 abbrev pub coveredIn : List (List Held) → List Held
 coveredIn tables = getD tables 0 []
 
 abbrev pub shutIn : List (List Held) → List Held
 shutIn tables = getD tables 1 []
 
-abbrev pub nearIn : List (List ℕ) → List ℕ
+abbrev pub nearIn : List (List Held) → List Held
 nearIn tables = getD tables 2 []
 
 -- the candidates of group k after the word d, from the table's row and the group's frozen indices
-unfoldable pub rowCandidates : List (List ℕ) → List (List ℕ) → Tree → ℕ → ℕ → List Candidate
+unfoldable pub rowCandidates : List (List ℕ) → List (List Held) → Tree → ℕ → ℕ → List Candidate
 rowCandidates rows tables g k d =
-    entryCandidates (g .n) (g .folding) (g .size) k (getD (nearIn tables) k 0)
+    entryCandidates (g .n) (g .folding) (g .size) k (wordAt (nearIn tables) k)
     (blockOf (g .size) k (codeword (g .n) (seat (g .n) (g .folding) d)))
     (blockOf (g .size) k (seat (g .n) (g .folding) (wordAt (shutIn tables) k)))
     (rowAt rows (g .size) k)
 
 -- what the tables of a walk hold
-pub record Tabled (rows : List (List ℕ)) (change : List Held) (tables : List (List ℕ)) (g : Tree) : Type 0 where
+pub record Tabled (rows : List (List ℕ)) (change : List Held) (tables : List (List Held)) (g : Tree) : Type 0 where
   pub grouped : Grouped g
   pub bounded : (k j : ℕ) → k < g .groups → j < 2 ^ (g .size)
-      → branchOf (getD (nearIn tables) k 0) (entryAt rows (g .size) k j) ≤ g .size * most
+      → branchOf (wordAt (nearIn tables) k) (entryAt rows (g .size) k j) ≤ g .size * most
   pub narrow : (k j : ℕ) → k < g .groups → j < 2 ^ (g .size) → entryAt rows (g .size) k j % 256 < 2 ^ (g .size)
   pub changes : Changes change g
   pub copied : Covered (coveredIn tables) g
@@ -60,7 +60,7 @@ pub record Begun (g : Tree) (left partial w : ℕ) : Type 0 where
   pub room : partial + left * (g .size * most) < 2 ^ 32
 
 -- all that a node is given
-pub record Given (rows : List (List ℕ)) (change : List Held) (tables : List (List ℕ)) (g : Tree) (left partial w : ℕ) (s : Walked) : Type 0 where
+pub record Given (rows : List (List ℕ)) (change : List Held) (tables : List (List Held)) (g : Tree) (left partial w : ℕ) (s : Walked) : Type 0 where
   pub tabled : Tabled rows change tables g
   pub begun : Begun g left partial w
   pub running : s .visits ≤ g .allowance

@@ -80,7 +80,7 @@ fn node(
     let k = left - 1;
     let size = tree.size;
     let entries: usize = 1 << size;
-    let base = partial + tables[NEAR][k];
+    let base = partial + word::low(tables[NEAR][k]);
     let mut s = state;
     let mut j = 0;
     while j < entries {

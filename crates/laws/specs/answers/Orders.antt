@@ -1,5 +1,6 @@
 -- Orders of refusals by parts: what an order answers where its first part refuses or is passed, and for each named order what
--- passing it says of the input (that of decoding stands in DecodeOrder). No other proof looks into an order.
+-- passing it says of the input; those of decoding and of a record stand in DecodeOrder and Records. Besides these laws only the
+-- proof of a function that makes the tests looks into its order.
 use Prim.Native.Nat.{ℕ, _^_, _≤_, _<_}
 use mathlib.Core.Path.{_≡_, refl, sym, ap}
 use mathlib.Core.Logic.{_↔_}

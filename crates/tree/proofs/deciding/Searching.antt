@@ -29,7 +29,7 @@ use Rattle.laws.specs.seats.SeatedWalk.{seatedCandidates, seated-least-in}
 use Rattle.laws.specs.numbers.SortedLists.{mem-getD}
 use Rattle.laws.specs.rows.SortedRows.{rowOf, row-length, row-at, row-cong, entry-parts}
 use Rattle.laws.specs.walk.Allowance.{walkIn, walk-cong}
-use Rattle.word.specs.Words.{Held}
+use Rattle.word.specs.Words.{Held, wordAt}
 use Rattle.groups.specs.Seating.{Seated}
 use Rattle.groups.specs.Grouping.{Grouped, Covered, Shut, Changes}
 use Rattle.rows.specs.Table.{entryAt, rowAt}
@@ -54,7 +54,7 @@ module _ {levels : List ℤ} {g : Tree} (grouped : Grouped g) (given : Searchabl
             λ t h. rw (zero-add t, index-at seated t (rw (all-indices grouped) at h)) (given .ranged _ (seat-below (g .n) (g .folding) (given .fits) t (rw (all-indices grouped) at h)));
       }
 
-  module _ (table tables : List (List ℕ)) (ranked : Ranked levels index (g .groups) (g .size) table (nearIn tables)) where
+  module _ (table : List (List ℕ)) (tables : List (List Held)) (ranked : Ranked levels index (g .groups) (g .size) table (nearIn tables)) where
     -- a seat of group k is a seat
     inside : (k t : ℕ) → k < g .groups → t < g .size → k * g .size + t < g .groups * g .size
     inside k t hk ht = omega (arith, mul-le-mul-right (g .size) hk, suc-mul k (g .size))
@@ -74,7 +74,7 @@ module _ {levels : List ℤ} {g : Tree} (grouped : Grouped g) (given : Searchabl
     more-is k t b hk ht = ap (λ (z : ℤ). excess z b) (level-is k t hk ht)
 
     -- what the nearer bits of group k cost
-    near-is : (k : ℕ) → k < g .groups → getD (nearIn tables) k 0 ≡ sumBelow (g .size) (λ t. nearest (own k t))
+    near-is : (k : ℕ) → k < g .groups → wordAt (nearIn tables) k ≡ sumBelow (g .size) (λ t. nearest (own k t))
     near-is k hk = ranked .sums k hk ∙ sum-cong (g .size) (λ t ht. ap nearest (level-is k t hk ht))
 
     abbrev row : ℕ → List ℕ
@@ -92,11 +92,11 @@ module _ {levels : List ℤ} {g : Tree} (grouped : Grouped g) (given : Searchabl
 
     -- its branch is what the slots cost at that pattern, so it is bounded
     bounded : (k j : ℕ) → k < g .groups → j < 2 ^ (g .size)
-        → branchOf (getD (nearIn tables) k 0) (entryAt table (g .size) k j) ≤ g .size * most
+        → branchOf (wordAt (nearIn tables) k) (entryAt table (g .size) k j) ≤ g .size * most
     bounded k j hk hj =
         let r = entry-of k j hk hj in
         let cost : ℕ → ℕ = λ t. nearest (own k t) + 1024 * more k t (bit (r .0) t) in
-        let all : sumBelow (g .size) cost ≡ branchOf (getD (nearIn tables) k 0) (entryAt table (g .size) k j) =
+        let all : sumBelow (g .size) cost ≡ branchOf (wordAt (nearIn tables) k) (entryAt table (g .size) k j) =
         sum-add (g .size) (λ t. nearest (own k t)) (λ t. 1024 * more k t (bit (r .0) t))
         ∙ rw (near-is k hk, r .2, sum-mul (g .size) 1024 (λ t. more k t (bit (r .0) t)))
         in
@@ -143,15 +143,15 @@ module _ {levels : List ℤ} {g : Tree} (grouped : Grouped g) (given : Searchabl
         at j hj = each-at (entryAt table (g .size) k) 0 (2 ^ (g .size)) j hj ∙ ranked .rows k j group hj
 
     near-sums : (k : ℕ) → k < groups (g .n) (g .folding)
-        → getD (nearIn tables) k 0
+        → wordAt (nearIn tables) k
         ≡ sumBelow (2 ^ ones (g .folding)) (λ t. nearest (levelAt levels (seatIndex (g .n) (g .folding) (k * 2 ^ ones (g .folding) + t))))
     near-sums k hk =
-        resized (λ (z : ℕ). getD (nearIn tables) k 0 ≡ sumBelow z (λ t. nearest (levelAt levels (seatIndex (g .n) (g .folding) (k * z + t)))))
+        resized (λ (z : ℕ). wordAt (nearIn tables) k ≡ sumBelow z (λ t. nearest (levelAt levels (seatIndex (g .n) (g .folding) (k * z + t)))))
         (near-is k (rw (grouped .all) hk))
 
     module _ (mask allowance : ℕ) (frozen : Shut (shutIn tables) g mask) where
       abbrev seated-rows : ℕ → ℕ → List Candidate
-      seated-rows = seatedCandidates (g .n) mask (g .folding) (λ k. getD (nearIn tables) k 0) (rowAt table (g .size))
+      seated-rows = seatedCandidates (g .n) mask (g .folding) (λ k. wordAt (nearIn tables) k) (rowAt table (g .size))
 
       -- at each group the candidates are those of the mask
       same-candidates : (k d : ℕ) → k < g .groups → rowCandidates table tables g k d ≡ seated-rows k d
@@ -159,7 +159,7 @@ module _ {levels : List ℤ} {g : Tree} (grouped : Grouped g) (given : Searchabl
       same-candidates k d hk =
           let n = g .n in
           let folding = g .folding in
-          let near = getD (nearIn tables) k 0 in
+          let near = wordAt (nearIn tables) k in
           let block = frozen-block grouped (shutIn tables) mask frozen k hk in
           ap (λ (b : ℕ). entryCandidates n folding (g .size) k near (blockOf (g .size) k (codeword n (seat n folding d))) b (rowAt table (g .size) k)) block
           ∙ ap
@@ -178,5 +178,5 @@ module _ {levels : List ℤ} {g : Tree} (grouped : Grouped g) (given : Searchabl
           walk-cong keepBest allowance _ _ (g .groups) same-candidates 0 0 (some empty)
           ∙ ap (λ (m : ℕ). walkIn keepBest allowance seated-rows m 0 0 (some empty)) (grouped .all)
           ∙ seated-least-in (g .n) mask (levelCost levels) (λ i. nearest (levelAt levels i)) (λ i b. excess (levelAt levels i) b)
-          (λ i b. cost-split (levelAt levels i) b) (g .folding) (λ k. getD (nearIn tables) k 0) (rowAt table (g .size)) (given .fits) (given .few)
+          (λ i b. cost-split (levelAt levels i) b) (g .folding) (λ k. wordAt (nearIn tables) k) (rowAt table (g .size)) (given .fits) (given .few)
           near-sums rows-sorted allowance

@@ -9,7 +9,7 @@ use lib.ListN.{length-replicate}
 use borrow.Author.Needs.{needs}
 use borrow.Author.Tests.{lt-ltb, le-ltb}
 use Rattle.rules.specs.Refusals.{largest}
-use Rattle.word.specs.Words.{wordOf}
+use Rattle.word.specs.Words.{Held, wordOf}
 use Rattle.groups.specs.Seating.{Seated}
 use Rattle.groups.specs.Grouping.{Grouped}
 use Rattle.tree.specs.Empty.{firstEmpty}
@@ -67,19 +67,22 @@ returns c =
     let first = c .before .before .first-empty .ensures _ (c .before .before .before .before .shut .ensures) in
     answer-seven _ _ _ _ _ _ (onto (λ n folding. firstEmpty n (wordOf (seats .before .before .args .frozen)) folding ≡ some (c .before .before .first-empty .result)) (same-n seats) (same-folding seats) (first .named (c .if1 .taken)))
 
+none-requires : tie.Need-none-requires
+none-requires c κs = search needs
+
 index-1-rows : tie.Need-index-1-rows
 index-1-rows c = search needs
 
 rows-requires : tie.Need-rows-requires
 rows-requires c κs =
-    let seats = c .before .before .before .before .before .before .before .before in
-    (grouped seats, levelled (grouped seats) (given seats) (seated seats), length-replicate {A = ℕ} (2 ^ largest) 0)
+    let seats = c .before .before .before .before .before .before .before .before .before in
+    (grouped seats, levelled (grouped seats) (given seats) (seated seats), length-replicate {A = Held} (2 ^ largest) (c .before .before .none .result))
 
 changes-requires : tie.Need-changes-requires
-changes-requires c κs = let seats = c .before .before .before .before .before .before .before .before .before .before in (grouped seats, seated seats)
+changes-requires c κs = let seats = c .before .before .before .before .before .before .before .before .before .before .before in (grouped seats, seated seats)
 
 covered-requires : tie.Need-covered-requires
-covered-requires c κs = let seats = c .before .before .before .before .before .before .before .before .before .before .before .before in (grouped seats, seated seats)
+covered-requires c κs = let seats = c .before .before .before .before .before .before .before .before .before .before .before .before .before in (grouped seats, seated seats)
 
 array-set-from-tables : tie.Need-array-set-from-tables
 array-set-from-tables c = search needs
@@ -91,14 +94,14 @@ walk-requires : tie.Need-walk-requires
 walk-requires c κs =
     let covered = c .before .before .before in
     let rows = covered .before .before .before .before in
-    let shut = rows .before .before .before .before .before .before .before in
+    let shut = rows .before .before .before .before .before .before .before .before in
     let seats = shut .before .before in
     tables-right (grouped seats) (given seats) (seated seats) _ _ (rows .rows .ensures) _ _ (covered .before .before .changes .ensures) (covered .covered .ensures)
     (shut .shut .ensures)
 
 -- after the walk: what was given, that every level has a candidate, and what the walk ended with
 abbrev shutting : tie.After-walk → tie.After-shut
-shutting c = c .before .before .before .before .before .before .before .before .before .before .before .before .before .before .before
+shutting c = c .before .before .before .before .before .before .before .before .before .before .before .before .before .before .before .before
 
 abbrev begun : tie.After-walk → tie.Start
 begun c = shutting c .before .before .before .before
@@ -106,8 +109,8 @@ begun c = shutting c .before .before .before .before
 candidates : (c : tie.After-walk) → firstEmpty (begun c .args .n) (wordOf (begun c .args .frozen)) (begun c .args .folding) ≡ none
 candidates c =
     let seats = shutting c .before .before in
-    let first = c .before .before .before .before .before .before .before .before .before .before .before .before .before .first-empty .ensures _ (shutting c .shut .ensures) in
-    onto (λ n folding. firstEmpty n (wordOf (begun c .args .frozen)) folding ≡ none) (same-n seats) (same-folding seats) (first .absent (omega (arith, first .inside, c .before .before .before .before .before .before .before .before .before .before .before .if1 .left)))
+    let first = c .before .before .before .before .before .before .before .before .before .before .before .before .before .before .first-empty .ensures _ (shutting c .shut .ensures) in
+    onto (λ n folding. firstEmpty n (wordOf (begun c .args .frozen)) folding ≡ none) (same-n seats) (same-folding seats) (first .absent (omega (arith, first .inside, c .before .before .before .before .before .before .before .before .before .before .before .before .if1 .left)))
 
 ends : (c : tie.After-walk)
     → Ends (begun c .args .n) (wordOf (begun c .args .frozen)) (begun c .args .folding) (begun c .args .allowance) (begun c .args .levels .now) (c .walk .result)
@@ -178,6 +181,7 @@ search-spec =
     shut-requires
     first-empty-requires
     returns
+    none-requires
     index-1-rows
     rows-requires
     changes-requires

@@ -13,6 +13,7 @@ use borrow.Fn.PlainCycle.{Measures, is, falls, and}
 use Rattle.walk.proofs.node.Reads as node
 use Rattle.walk.proofs.node.Kinds as node-kinds
 use Rattle.walk.proofs.+node.Lts-node as node-lts
+use Rattle.word.proofs.low.Reads as low-reads
 use Rattle.walk.proofs.state.farther.Reads as farther-reads
 use Rattle.walk.proofs.state.keep_word.Reads as keep-word-reads
 use Rattle.walk.proofs.state.used_up.Reads as used-up-reads
@@ -36,6 +37,8 @@ abbrev claims : ℕ → node-lts.Claims
 claims t = (
   keep-word-reads.Asked,
   keep-word-reads.Learnt,
+  low-reads.Asked,
+  low-reads.Learnt,
   entry-reads.Asked,
   entry-reads.Learnt,
   changed-reads.Asked,
@@ -69,20 +72,23 @@ node-sub-k t c = omega arith
 node-shl-entries : (t : ℕ) → node-lts.Need-shl-entries (claims t) (node-at t) node.Post node-Inv-loop node-μ-loop
 node-shl-entries t c = omega (arith, narrow (given-next (c .before .pre .1) (c .if1 .left)))
 
-node-mul-base : (t : ℕ) → node-lts.Need-mul-base (claims t) (node-at t) node.Post node-Inv-loop node-μ-loop
-node-mul-base t c = omega (arith, few-groups (given-next (c .before .pre .1) (c .if1 .left)))
+node-mul-low : (t : ℕ) → node-lts.Need-mul-low (claims t) (node-at t) node.Post node-Inv-loop node-μ-loop
+node-mul-low t c = omega (arith, few-groups (given-next (c .before .pre .1) (c .if1 .left)))
 
-node-index-1-base : (t : ℕ) → node-lts.Need-index-1-base (claims t) (node-at t) node.Post node-Inv-loop node-μ-loop
-node-index-1-base t c = search needs
+node-index-1-low : (t : ℕ) → node-lts.Need-index-1-low (claims t) (node-at t) node.Post node-Inv-loop node-μ-loop
+node-index-1-low t c = search needs
 
-node-index-2-base : (t : ℕ) → node-lts.Need-index-2-base (claims t) (node-at t) node.Post node-Inv-loop node-μ-loop
-node-index-2-base t c = few-groups (given-next (c .before .pre .1) (c .if1 .left))
+node-index-2-low : (t : ℕ) → node-lts.Need-index-2-low (claims t) (node-at t) node.Post node-Inv-loop node-μ-loop
+node-index-2-low t c = few-groups (given-next (c .before .pre .1) (c .if1 .left))
+
+node-low-requires : (t : ℕ) → node-lts.Need-low-requires (claims t) (node-at t) node.Post node-Inv-loop node-μ-loop
+node-low-requires t c κs = search needs
 
 node-add-base : (t : ℕ) → node-lts.Need-add-base (claims t) (node-at t) node.Post node-Inv-loop node-μ-loop
-node-add-base t c = record { fits = omega (arith, near-fits (given-next (c .before .before .pre .1) (c .before .if1 .left))) }
+node-add-base t c = record { fits = omega (arith, near-fits (given-next (c .before .before .before .pre .1) (c .before .before .if1 .left)), c .low .ensures) }
 
 node-loop-holds : (t : ℕ) → node-lts.Need-loop-holds (claims t) (node-at t) node.Post node-Inv-loop node-μ-loop
-node-loop-holds t c = trying-none (c .before .before .pre .1) (c .before .if1 .left)
+node-loop-holds t c = trying-none (c .before .before .before .pre .1) (c .before .before .if1 .left) (c .low .result) (c .low .ensures)
 
 node-entry-requires : (t : ℕ) → node-lts.Need-entry-requires (claims t) (node-at t) node.Post node-Inv-loop node-μ-loop
 node-entry-requires t c κs = inside (c .before .loop .inv .given) _ (below (c .before .loop .inv) (c .loop-test .taken))
@@ -169,7 +175,7 @@ node-node-requires t c κs =
     let at = c .before .before .before .before .before .before .before .before in
     let inv = at .before .before .before .before .loop .inv in
     let here = at .before .before .before .loop-test .taken in (
-      omega (arith, at .before .before .before .before .before .before .before .pre .0, at .before .before .before .before .before .before .if1 .left),
+      omega (arith, at .before .before .before .before .before .before .before .before .pre .0, at .before .before .before .before .before .before .before .if1 .left),
       rw (next-is inv here _ (at .before .before .entry .ensures) _ (at .changed .ensures))
           (given-down (inv .given) _ (below inv here) _ _ (total-is inv here _ (at .before .before .entry .ensures))
           (ltb-false _ _ (sym (c .before .before .before .used-up .ensures) ∙ c .before .before .if3 .left))),
@@ -222,9 +228,10 @@ pub +node-spec : {M : Type 1} → statement M
     (node-returns t)
     (node-sub-k t)
     (node-shl-entries t)
-    (node-mul-base t)
-    (node-index-1-base t)
-    (node-index-2-base t)
+    (node-mul-low t)
+    (node-index-1-low t)
+    (node-index-2-low t)
+    (node-low-requires t)
     (node-add-base t)
     (node-loop-holds t)
     (node-entry-requires t)

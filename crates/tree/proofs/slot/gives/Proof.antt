@@ -6,7 +6,9 @@ use native.Mathlib.Nat.{mul-le-mul-right, suc-mul}
 use native.Mathlib.Omega.{arith}
 use lib.IntN.{ℤ}
 use lib.ListN.{length, length-set}
+use borrow.Author.Needs.{needs}
 use Rattle.rules.specs.Refusals.{largest}
+use Rattle.word.specs.Words.{Held}
 use Rattle.tree.specs.Slots.{Levelled, Gives}
 use Rattle.groups.proofs.Tabling.{few-groups}
 use Rattle.tree.proofs.Giving.{later-seats, all-none, all-next}
@@ -41,25 +43,31 @@ group-gives-requires c κs =
 k-small : (c : tie.After-group-gives Inv-loop μ-loop) → c .before .before .before .before .before .before .loop .k < 2 ^ largest
 k-small c = omega (arith, few-groups (c .before .before .before .before .before .before .before .pre .0 .0), c .before .before .before .before .if1 .taken)
 
+of-requires : tie.Need-of-requires Inv-loop μ-loop
+of-requires c κs = search needs
+
 mul-near : tie.Need-mul-near Inv-loop μ-loop
-mul-near c = record { fits = omega (arith, k-small c) }
+mul-near c = record { fits = omega (arith, k-small (c .before)) }
 
 element-write-near : tie.Need-element-write-near Inv-loop μ-loop
-element-write-near c = k-small c
+element-write-near c = k-small (c .before)
 
 add-k : tie.Need-add-k Inv-loop μ-loop
-add-k c = record { fits = omega (arith, k-small c) }
+add-k c = record { fits = omega (arith, k-small (c .before)) }
 
 loop-less : tie.Need-loop-less Inv-loop μ-loop
-loop-less c = omega (arith, c .before .before .before .before .if1 .taken)
+loop-less c = omega (arith, c .before .before .before .before .before .if1 .taken)
 
 loop-again : tie.Need-loop-again Inv-loop μ-loop
 loop-again c =
-    let inv = c .before .before .before .before .before .before .loop .inv in
-    (all-next (inv .0) (c .group-gives .ensures) (inv .1) (k-small c), length-set (c .before .before .before .before .before .before .loop .near) (c .before .before .before .before .before .before .loop .k) (c .group-gives .result) ∙ inv .1, omega (arith, c .before .before .before .before .if1 .taken))
+    let turn = c .before .before .before .before .before .before .before .loop in (
+      all-next (turn .inv .0) (c .before .group-gives .ensures) (c .of .result) (c .of .ensures) (turn .inv .1) (k-small (c .before)),
+      length-set (turn .near) (turn .k) (c .of .result) ∙ turn .inv .1,
+      omega (arith, c .before .before .before .before .before .if1 .taken),
+    )
 
 -- all groups
-exact : {levels : List ℤ} {index : List ℕ} {k groups size : ℕ} {zero one near : List ℕ} → Gives levels index k size zero one near → k ≤ groups
+exact : {levels : List ℤ} {index : List ℕ} {k groups size : ℕ} {zero one : List ℕ} {near : List Held} → Gives levels index k size zero one near → k ≤ groups
     → groups ≤ k → Gives levels index groups size zero one near
 exact {k = k} {groups = groups} i l h = let e : k ≡ groups = omega arith in rw e at i
 
@@ -75,6 +83,7 @@ gives-spec =
     loop-holds
     mul-group-gives
     group-gives-requires
+    of-requires
     mul-near
     element-write-near
     add-k
