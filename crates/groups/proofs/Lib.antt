@@ -1,7 +1,6 @@
 pub mod Widening
 pub mod WideningBy
 pub mod SeatLoops
-pub mod GroupSizes
 pub mod Tabling
 pub mod WordsDoubled
 pub mod Changing

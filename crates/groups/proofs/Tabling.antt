@@ -13,6 +13,7 @@ use Rattle.rules.specs.Word.{bit}
 use Rattle.rules.specs.Refusals.{largest}
 use Rattle.laws.specs.numbers.Sums.{sum-zero, sum-split}
 use Rattle.laws.specs.numbers.Bits.{bit-beyond, bit-high}
+use Rattle.laws.specs.rows.SlotsInGroup.{GroupSize, eight-at-most}
 use Rattle.laws.specs.walk.GroupSizes.{groups-all}
 use Rattle.laws.specs.seats.Seats.{seatIndex}
 use Rattle.laws.specs.seats.SeatWords.{seat, unseat, unseatBelow, unseat-lt}
@@ -22,10 +23,8 @@ use Rattle.laws.specs.seats.Decided.{shutOf, shut-block}
 use Rattle.laws.specs.seats.Copied.{shut-is}
 use Rattle.word.specs.Words.{Held, wordAt}
 use Rattle.groups.specs.declared.Tree.{Tree}
-use Rattle.groups.specs.Grouping.{GroupSize}
 use Rattle.groups.specs.Grouping.{Grouped, Shut}
 use Rattle.groups.specs.Seating.{Seated}
-use Rattle.groups.proofs.GroupSizes as sizes
 use Rattle.groups.proofs.SeatLoops.{index-at, index-fits, unseat-next}
 
 -- the number of m ones has a one at each index below m
@@ -47,7 +46,7 @@ module _ {g : Tree} (given : Grouped g) where
 
   -- at most 8
   pub size-small : g .size ≤ 8
-  size-small = sizes.size-small shape
+  size-small = eight-at-most shape
 
   -- the groups have all indices
   pub all-indices : g .groups * g .size ≡ 2 ^ g .n

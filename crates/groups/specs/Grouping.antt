@@ -22,10 +22,6 @@ pub record Grouped (g : Tree) : Type 0 where
   pub bounded : g .allowance < 2 ^ 32
   pub all : g .groups ≡ rules.groups (g .n) (g .folding)
 
--- a group has 1, 2, 4 or 8 slots
-abbrev pub GroupSize : ℕ → Type 0
-GroupSize size = (f : ℕ) × (f ≤ 3) × (size ≡ 2 ^ f)
-
 -- for each group, the codeword of its smallest index alone
 abbrev pub Covered : List Held → Tree → Type 0
 Covered l g = (k : ℕ) → k < g .groups → wordAt l k ≡ coveredOf (g .n) (g .folding) k

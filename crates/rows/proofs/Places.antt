@@ -1,22 +1,12 @@
 -- The places of the groups' rows in the table: each lies in one row, and none overlaps another.
-use Prim.Native.Nat.{ℕ, zero, suc, _+_, _*_, _%_, _^_, _≤_, _<_}
+use Prim.Native.Nat.{ℕ, _+_, _*_, _%_, _^_, _≤_, _<_}
 use mathlib.Core.Path.{_≡_, refl}
 use native.Mathlib.Omega.{arith}
 use Rattle.laws.specs.numbers.Bits.{power-shifted}
+use Rattle.laws.specs.rows.SlotsInGroup.{by-size, eight-at-most}
 use Rattle.rows.specs.Table.{capacity}
 use Rattle.rows.specs.Adding.{Sized}
 use Rattle.rules.specs.Refusals.{largest}
-
--- what holds at 1, 2, 4 and 8 holds at every group size
-by-size : (P : ℕ → Type 0) → P 1 → P 2 → P 4 → P 8 → {groups size : ℕ} → Sized groups size → P size
-by-size P one two four eight g = rw (g .shape .2) (go (g .shape .0) (g .shape .1))
-  where
-    go : (f : ℕ) → f ≤ 3 → P (2 ^ f)
-    go zero l = one
-    go (suc zero) l = two
-    go (suc (suc zero)) l = four
-    go (suc (suc (suc zero))) l = eight
-    go (suc (suc (suc (suc f)))) l = absurd (omega arith)
 
 -- the place of group k among groups of a size
 pub record Place (size k : ℕ) : Type 0 where
@@ -28,7 +18,7 @@ module _ {groups size : ℕ} (g : Sized groups size) where
   -- every group has one
   pub place : {k : ℕ} → k < groups → Place size k
   place {k} l =
-      by-size (λ (size : ℕ). groups * size ≤ 2 ^ largest → Place size k) (λ h. omega arith) (λ h. omega arith) (λ h. omega arith) (λ h. omega arith) g (g .seats)
+      by-size (λ (size : ℕ). groups * size ≤ 2 ^ largest → Place size k) (λ h. omega arith) (λ h. omega arith) (λ h. omega arith) (λ h. omega arith) (g .shape) (g .seats)
 
   -- slot t of group k has a seat
   pub seat-inside : {k t : ℕ} → k < groups → t < size → k * size + t < 2 ^ largest
@@ -37,19 +27,19 @@ module _ {groups size : ℕ} (g : Sized groups size) where
   -- there are no more groups than seats
   pub groups-few : groups ≤ 2 ^ largest
   groups-few =
-      by-size (λ (size : ℕ). groups * size ≤ 2 ^ largest → groups ≤ 2 ^ largest) (λ h. omega arith) (λ h. omega arith) (λ h. omega arith) (λ h. omega arith) g (g .seats)
+      by-size (λ (size : ℕ). groups * size ≤ 2 ^ largest → groups ≤ 2 ^ largest) (λ h. omega arith) (λ h. omega arith) (λ h. omega arith) (λ h. omega arith) (g .shape) (g .seats)
 
   -- a group has one slot at least
   pub size-some : 1 ≤ size
-  size-some = by-size (λ (size : ℕ). 1 ≤ size) (omega arith) (omega arith) (omega arith) (omega arith) g
+  size-some = by-size (λ (size : ℕ). 1 ≤ size) (omega arith) (omega arith) (omega arith) (omega arith) (g .shape)
 
   -- and 8 at most
   pub size-small : size ≤ 8
-  size-small = by-size (λ (size : ℕ). size ≤ 8) (omega arith) (omega arith) (omega arith) (omega arith) g
+  size-small = eight-at-most (g .shape)
 
   -- more than two slots are 4 or 8
   pub size-even : 2 < size → size % 2 ≡ 0
-  size-even = by-size (λ (size : ℕ). 2 < size → size % 2 ≡ 0) (λ n. absurd (omega arith)) (λ n. refl) (λ n. refl) (λ n. refl) g
+  size-even = by-size (λ (size : ℕ). 2 < size → size % 2 ≡ 0) (λ n. absurd (omega arith)) (λ n. refl) (λ n. refl) (λ n. refl) (g .shape)
 
   -- where more than two slots make groups, four groups from a multiple of four on have seats too
   pub four-sized : 2 < size → {k : ℕ} → k < groups → k % 4 ≡ 0 → Sized (k + 4) size
@@ -58,7 +48,7 @@ module _ {groups size : ℕ} (g : Sized groups size) where
     seats = by-size (λ (size : ℕ). 2 < size → groups * size ≤ 2 ^ largest → (k + 4) * size ≤ 2 ^ largest) (λ n. absurd (omega arith)) (λ n. absurd (omega arith))
         (λ n h. omega arith)
         (λ n h. omega arith)
-        g
+        (g .shape)
         few
         (g .seats);
   }

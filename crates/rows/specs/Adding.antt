@@ -4,12 +4,13 @@ use mathlib.Core.Path.{_≡_}
 use mathlib.Core.List.{List}
 use lib.ListN.{getD}
 use Rattle.rules.specs.Refusals.{largest}
+use Rattle.laws.specs.rows.SlotsInGroup.{GroupSize}
 use Rattle.laws.specs.rows.SortedRows.{rowOf}
 use Rattle.rows.specs.Table.{entryAt}
 
 -- groups of 1, 2, 4 or 8 slots, with no more seats than the largest block has
 pub record Sized (groups size : ℕ) : Type 0 where
-  pub shape : (f : ℕ) × (f ≤ 3) × (size ≡ 2 ^ f)
+  pub shape : GroupSize size
   pub seats : groups * size ≤ 2 ^ largest
 
 -- what a bit adds, at each seat, takes 20 bits at most

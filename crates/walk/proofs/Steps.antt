@@ -12,6 +12,7 @@ use Rattle.rules.specs.Word.{codeword}
 use Rattle.rules.specs.Folding as rules
 use Rattle.rules.specs.Refusals.{largest}
 use Rattle.laws.specs.code.Disjoint.{Disjoint, disjoint-longer}
+use Rattle.laws.specs.rows.SlotsInGroup.{GroupSize, by-size}
 use Rattle.laws.specs.seats.SeatWords.{seat}
 use Rattle.laws.specs.seats.SeatedRow.{blockOf, fillingOf, isOpen, branchOf, entryCandidate}
 use Rattle.laws.specs.seats.Decided.{decided, changeOf, Filled, filled}
@@ -19,13 +20,11 @@ use Rattle.laws.specs.seats.Copied.{change-copied, covered-apart}
 use Rattle.rows.specs.Table.{capacity, entryAt}
 use Rattle.word.specs.Words.{Held, wordAt}
 use Rattle.walk.specs.Nodes.{Inside}
-use Rattle.groups.specs.Grouping.{GroupSize}
 use Rattle.groups.specs.Grouping.{Grouped}
 use Rattle.walk.specs.Nodes.{Given, rowCandidates, most, coveredIn, shutIn, nearIn}
 use Rattle.groups.specs.declared.Tree.{Tree}
 use Rattle.walk.specs.declared.state.Walked.{Walked}
 use Rattle.walk.proofs.RowRest.{rest}
-use Rattle.groups.proofs.GroupSizes.{by-size}
 use Rattle.groups.proofs.Tabling.{shape, size-small, all-indices, few-groups as at-most, frozen-block}
 
 -- the row of a group among the slots of the largest block is in the table

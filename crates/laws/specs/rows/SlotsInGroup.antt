@@ -1,7 +1,11 @@
--- Group sizes: what holds at 1, 2, 4 and 8 holds at each.
+-- How many slots a group has: what holds at 1, 2, 4 and 8 holds at each.
 use Prim.Native.Nat.{ℕ, zero, suc, _^_, _≤_}
+use mathlib.Core.Path.{_≡_}
 use native.Mathlib.Omega.{arith}
-use Rattle.groups.specs.Grouping.{GroupSize}
+
+-- a group has 1, 2, 4 or 8 slots
+abbrev pub GroupSize : ℕ → Type 0
+GroupSize size = (f : ℕ) × (f ≤ 3) × (size ≡ 2 ^ f)
 
 -- what holds at 1, 2, 4 and 8 holds at every group size
 pub by-size : (P : ℕ → Type 0) → P 1 → P 2 → P 4 → P 8 → {size : ℕ} → GroupSize size → P size
@@ -14,5 +18,5 @@ by-size P one two four eight g = rw (g .2) (go (g .0) (g .1))
     go (suc (suc (suc zero))) l = eight
     go (suc (suc (suc (suc f)))) l = absurd (omega arith)
 
-pub size-small : {size : ℕ} → GroupSize size → size ≤ 8
-size-small = by-size (λ (size : ℕ). size ≤ 8) (omega arith) (omega arith) (omega arith) (omega arith)
+pub eight-at-most : {size : ℕ} → GroupSize size → size ≤ 8
+eight-at-most = by-size (λ (size : ℕ). size ≤ 8) (omega arith) (omega arith) (omega arith) (omega arith)
