@@ -9,6 +9,7 @@ import struct
 import reference
 
 RM = 0x0000000100010117
+LIMIT = reference.LIMIT
 HUGE = 4294967295
 state = 20250
 
@@ -43,7 +44,7 @@ def ideal(n, mask, message):
 
 
 def clip(v):
-    return max(-1024, min(1024, v))
+    return max(-LIMIT, min(LIMIT, v))
 
 
 def noisy(n, mask, sigma):
@@ -93,8 +94,8 @@ add("j: slot 0 at -256, a tie that message 0 wins", 3, 0, 1000, 5, but(one, 0, -
 add("k: n 1, nothing frozen, levels 0 0, folding 0", 1, 0, 100, 0, [0, 0])
 add("l: the same, folding 1", 1, 1, 100, 0, [0, 0])
 add("m: n 3, all frozen, eight levels -256", 3, 0, 100, 0xff, [-256] * 8)
-add("p: level 1024", 3, 0, 1000, 5, but(one, 3, 1024))
-add("p: level 1025", 3, 0, 1000, 5, but(one, 3, 1025))
+add("p: level 2047", 3, 0, 1000, 5, but(one, 3, 2047))
+add("p: level 2048", 3, 0, 1000, 5, but(one, 3, 2048))
 add("q: n 4, folding 7", 4, 7, 1000, 0x0117, ideal(4, 0x0117, 5))
 add("q: n 4, folding 15", 4, 15, 1000, 0x0117, ideal(4, 0x0117, 5))
 add("r: n 3, mask 0x80", 3, 0, 1000, 0x80, [-256] * 8)
@@ -144,34 +145,34 @@ for n, folding in ((4, 0b1110), (4, 0b1011), (5, 0b10101), (5, 0b11110), (6, 0b1
 
 section("Levels at their borders")
 for slot in (0, 7):
-    for value in (1024, 1025, -1024, -1025):
+    for value in (LIMIT, LIMIT + 1, -LIMIT, -LIMIT - 1):
         add("n 3, slot %d is %d" % (slot, value), 3, 3, 10000, 5, but(one, slot, value))
 add("n 3, slot 2 is 32767", 3, 3, 10000, 5, but(one, 2, 32767))
 add("n 3, slot 2 is -32768", 3, 3, 10000, 5, but(one, 2, -32768))
-add("n 3, all slots out of range", 3, 3, 10000, 5, [2000] * 8)
+add("n 3, all slots out of range", 3, 3, 10000, 5, [3000] * 8)
 FEW = sum(1 << i for i in range(64) if bin(i).count("1") < 5)
-add("n 6, RM(64,7), all slots 1024", 6, 7, 10000, FEW, [1024] * 64)
-add("n 6, RM(64,7), all slots -1024", 6, 7, 10000, FEW, [-1024] * 64)
-add("n 6, all slots 1024, all frozen: the greatest distance", 6, 7, 10000, 2 ** 64 - 1, [1024] * 64)
-add("n 6, slot 63 is 1025", 6, 7, 10000, RM, [1024] * 63 + [1025])
-add("n 6, slot 63 is -1025", 6, 0, 10000, RM, [-1024] * 63 + [-1025])
+add("n 6, RM(64,7), all slots %d" % LIMIT, 6, 7, 10000, FEW, [LIMIT] * 64)
+add("n 6, RM(64,7), all slots %d" % -LIMIT, 6, 7, 10000, FEW, [-LIMIT] * 64)
+add("n 6, all slots %d, all frozen: the greatest distance" % LIMIT, 6, 7, 10000, 2 ** 64 - 1, [LIMIT] * 64)
+add("n 6, slot 63 is %d" % (LIMIT + 1), 6, 7, 10000, RM, [LIMIT] * 63 + [LIMIT + 1])
+add("n 6, slot 63 is %d" % (-LIMIT - 1), 6, 0, 10000, RM, [-LIMIT] * 63 + [-LIMIT - 1])
 
 section("Two faults (or more): the earlier of 1, 12, 3, 4, 5, 6, 8 is named")
 add("n 0 and byte 2: 1", 0, 0, 100, 5, one, byte2=1)
-add("n 7 and folding 0xff and a level 2000: 1", 7, 0xff, 100, 5, but(one, 0, 2000))
+add("n 7 and folding 0xff and a level 3000: 1", 7, 0xff, 100, 5, but(one, 0, 3000))
 add("n 9 and allowance 0: 1", 9, 0, 0, 5, one)
 add("byte 3 and mask: 12", 3, 0, 100, 0x100, one, byte3=1)
 add("level beyond N and mask: 12", 3, 0, 100, 0x100, wide(one, 8, 5))
 add("level beyond N out of range: 12, not 6", 3, 0, 100, 5, wide(one, 9, 3000))
-add("byte 2 and folding and level: 12", 3, 0xff, 100, 5, but(one, 0, 1025), byte2=1)
+add("byte 2 and folding and level: 12", 3, 0xff, 100, 5, but(one, 0, LIMIT + 1), byte2=1)
 add("mask and folding bit: 3", 3, 8, 100, 0x105, one)
 add("mask and four ones: 3", 4, 15, 100, 0x10000, [-256] * 16)
-add("mask and level: 3", 3, 0, 100, 0x100, but(one, 0, -1025))
+add("mask and level: 3", 3, 0, 100, 0x100, but(one, 0, -LIMIT - 1))
 add("folding bit at n and four ones: 4", 4, 0x17, 100, 1, [-256] * 16)
-add("folding bit at n and level: 4", 3, 8, 100, 5, but(one, 7, 1025))
-add("four ones and level: 5", 4, 15, 100, 1, [1025] + [-256] * 15)
+add("folding bit at n and level: 4", 3, 8, 100, 5, but(one, 7, LIMIT + 1))
+add("four ones and level: 5", 4, 15, 100, 1, [LIMIT + 1] + [-256] * 15)
 add("four ones and allowance 0: 5", 4, 15, 0, 1, [-256] * 16)
-add("level and allowance 0: 6", 3, 0, 0, 5, but(one, 7, -1025))
+add("level and allowance 0: 6", 3, 0, 0, 5, but(one, 7, -LIMIT - 1))
 
 section("Allowance: exactly the visits, and one less")
 def exact(words, n, folding, mask, levels):
@@ -224,13 +225,13 @@ section("All frozen: K is 0, the message is 0")
 for n in range(1, 7):
     for folding in (0, (1 << n) - 1 if n <= 3 else 0b101):
         add("n %d, folding %d" % (n, folding), n, folding, 64, 2 ** 2 ** n - 1,
-            [below(2049) - 1024 for _ in range(2 ** n)])
+            [below(2 * LIMIT + 1) - LIMIT for _ in range(2 ** n)])
 
 section("Nothing frozen")
 for n in (1, 2, 3, 4):
     for folding in (0, 1, (1 << n) - 1 if n <= 3 else 14):
         add("n %d, folding %d, random levels" % (n, folding), n, folding, HUGE, 0,
-            [below(2049) - 1024 for _ in range(2 ** n)])
+            [below(2 * LIMIT + 1) - LIMIT for _ in range(2 ** n)])
 add("n 6, folding 7, message of 64 ones", 6, 7, 1000, 0, ideal(6, 0, 2 ** 64 - 1))
 add("n 6, folding 0, levels of 200 and -200 turn about", 6, 0, 1000, 0, [200, -200] * 32)
 
@@ -246,12 +247,23 @@ for n in (2, 3, 4, 5, 6):
     folding = {2: 3, 3: 6, 4: 13, 5: 25, 6: 50}[n]
     add("n %d, a random mask, noise 150, folding %d" % (n, folding), n, folding, 100000, mask, noisy(n, mask, 150))
 
+section("Levels on both sides of the end that the range had before K1")
+for slot in (0, 7):
+    for value in (1024, 1025, -1024, -1025):
+        add("n 3, slot %d is %d" % (slot, value), 3, 3, 10000, 5, but(one, slot, value))
+strong = noisy(6, RM, 60)
+for slot in (58, 63):
+    strong[slot] = clip(8 * strong[slot])
+for folding in (0, 33, 7):
+    add("RM(64,57), noise 60, slots 58 and 63 at %d and %d, folding %d" % (strong[58], strong[63], folding),
+        6, folding, 200000, RM, strong)
+
 root = os.path.dirname(os.path.dirname(os.path.abspath(__file__)))
 crate = os.path.join(root, "crates", "border")
 with open(os.path.join(crate, "stdin"), "wb") as binary, open(os.path.join(crate, "stdout"), "w") as text, \
         open(os.path.join(root, "docs", "BORDER.md"), "w") as notes:
     notes.write("# The recorded blocks at the borders\n\nWhat each record of crates/border/stdin is there for, and the line that "
-                "must come (crates/border/stdout). Both were made from document 01 alone.\n")
+                "must come (crates/border/stdout). Both were made from documents 01 and 02 alone.\n")
     number = 0
     for title, records in sections:
         last = number + len(records) - 1

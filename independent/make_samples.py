@@ -27,7 +27,7 @@ def ideal(n, mask, message):
 
 def noisy(seed, sigma, levels):
     rng = random.Random(seed)
-    return [max(-1024, min(1024, round(v + rng.gauss(0, sigma)))) for v in levels]
+    return [max(-reference.LIMIT, min(reference.LIMIT, round(v + rng.gauss(0, sigma)))) for v in levels]
 
 
 def pull(levels, pulls):
@@ -77,7 +77,7 @@ RM_16_5 = 0x177f
 erased = ideal(4, RM_16_5, 0x15)
 erased[5:12] = [0] * 7
 out_of_range = list(clean)
-out_of_range[5] = 1025
+out_of_range[5] = reference.LIMIT + 1
 
 RECORDS = [                                          # (record, message sent or None)
     (record(3, 0, 100, 0x05, three), 1),

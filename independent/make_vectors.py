@@ -1,12 +1,42 @@
 #!/usr/bin/env python3
-"""Prints the lines of crates/vectors/stdout for the public calls of `sample`, `light`, `record` and
-`lines`.
+"""Prints the lines of crates/vectors/stdout for `decode`, whose cases it reads from crates/vectors/stdin, and
+for the public calls of `sample`, `light`, `record` and `lines`.
 
-  make_vectors.py | diff - <(sed -n '/^level /,$p' crates/vectors/stdout)
+  make_vectors.py | diff - <(sed -n '/^decode /p;/^level /,$p' crates/vectors/stdout)
 """
+import os
 from fractions import Fraction
 
 from vector_records import *
+
+# ---------------------------------------------------------------- decode
+
+def given_decodes():
+    """(the line, its numbers by name, its levels) of each case."""
+    root = os.path.dirname(os.path.dirname(os.path.abspath(__file__)))
+    with open(os.path.join(root, "crates", "vectors", "stdin")) as cases:
+        for line in cases:
+            call, *parts = line.split()
+            if call == "decode":
+                named = dict(part.split("=") for part in parts)
+                levels = named.pop("levels")
+                yield line.strip(), {k: int(v, 0) for k, v in named.items()}, [int(v) for v in levels.split(",") if v]
+
+
+def found(r):
+    return "message=%d d=0x%x x=0x%x distance=%d visits=%d" % (r["message"], r["d"], r["x"], r["distance"], r["visits"])
+
+
+def decodes():
+    out = []
+    for line, named, levels in given_decodes():
+        try:
+            got = found(decode(levels=levels, **named))
+        except Refused as no:
+            got = no.text()
+        out.append(line + " -> " + got)
+    return out
+
 
 # ---------------------------------------------------------------- samples and light
 
@@ -22,22 +52,23 @@ def light():
 
     for s in (1 / 512, 3 / 512, 5 / 512, -3 / 512, -0.0, 4.0, 100.0):     # rows n and o
         add(bits_of(s))
-    for sign in (1, -1):                                                   # twice the end of the range
+    for sign in (1, -1):                                                   # 2048, one past the end
         for b in (-1, 0, 1):
             add(bits_of(sign * 8.0) + b)
-    for t in (0.5, 1.5, 256.5, 601.5, 1023.5, 1024.5):                    # halves with both neighbours
+    for t in (0.5, 1.5, 256.5, 601.5, 1023.5, 1024.5, 2046.5, 2047.5):    # halves with both neighbours
         for sign in (1, -1):
             b = bits_of(sign * t / 256)
             assert exact(b) * 256 == Fraction(sign * t)
             add(b - 1)
             add(b)
             add(b + 1)
-    for sign in (1, -1):                                                   # clipping, whole levels
-        b = bits_of(sign * 4.0)
-        add(b - 1)
-        add(b)
-        add(b + 1)
-        add(bits_of(sign * 1023 / 256))
+    for end in (1024, LIMIT):                                              # the end before K1, and since
+        for sign in (1, -1):
+            b = bits_of(sign * end / 256)
+            add(b - 1)
+            add(b)
+            add(b + 1)
+            add(bits_of(sign * (end - 1) / 256))
     add(bits_of(-100.0))
     add(bits_of(255.5 / 256))
     add(bits_of(0.3))
@@ -179,13 +210,16 @@ RECORD = [
     (143, []), (145, []), (144, [(0, 0)]), (144, [(0, 7)]), (144, [(2, 1)]),
     (144, [(33, 1)]), (144, [(8, 128)]), (144, [(9, 1)]), (144, [(0, 4), (1, 15)]), (144, [(0, 4), (1, 7), (9, 255)]),
     # 6
-    (144, [(17, 4)]), (144, [(16, 1), (17, 4)]), (144, [(5, 1), (17, 252)]), (144, [(16, 255), (17, 251)]),
-    (144, [(31, 4)]), (144, [(30, 1), (31, 4)]), (144, [(19, 5), (25, 128)]), (144, [(0, 4), (47, 127)]),
+    (144, [(5, 1), (16, 255), (17, 7)]), (144, [(17, 8)]), (144, [(5, 1), (16, 1), (17, 248)]), (144, [(17, 248)]),
+    (144, [(30, 255), (31, 7)]), (144, [(31, 8)]), (144, [(19, 9), (25, 128)]), (144, [(0, 4), (47, 127)]),
+    # both sides of the end before K1
+    (144, [(17, 4)]), (144, [(16, 1), (17, 4)]), (144, [(5, 1), (17, 252)]), (144, [(5, 1), (16, 255), (17, 251)]),
+    (144, [(31, 4)]), (144, [(30, 1), (31, 4)]),
     # two refusals at once
-    (143, [(17, 5)]), (143, [(4, 0)]), (144, [(0, 7), (17, 5)]), (144, [(0, 0), (4, 0)]),
-    (144, [(2, 1), (17, 5)]), (144, [(33, 127)]), (144, [(3, 1), (4, 0)]), (144, [(9, 1), (17, 5)]),
-    (144, [(4, 0), (9, 1)]), (144, [(1, 8), (17, 5)]), (144, [(1, 8), (4, 0)]), (144, [(0, 4), (1, 15), (17, 5)]),
-    (144, [(0, 4), (1, 15), (4, 0)]), (144, [(4, 0), (17, 5)]),
+    (143, [(17, 9)]), (143, [(4, 0)]), (144, [(0, 7), (17, 9)]), (144, [(0, 0), (4, 0)]),
+    (144, [(2, 1), (17, 9)]), (144, [(33, 127)]), (144, [(3, 1), (4, 0)]), (144, [(9, 1), (17, 9)]),
+    (144, [(4, 0), (9, 1)]), (144, [(1, 8), (17, 9)]), (144, [(1, 8), (4, 0)]), (144, [(0, 4), (1, 15), (17, 9)]),
+    (144, [(0, 4), (1, 15), (4, 0)]), (144, [(4, 0), (17, 9)]),
     # ties
     (144, [(17, 0), (19, 0)]), (144, [(8, 0), (17, 0)]), (144, [(1, 6), (27, 2), (31, 0)]),
     (144, [(1, 4), (8, 20), (31, 1)]), (144, [(1, 4), (27, 0), (31, 2)]), (144, [(1, 6), (8, 19), (29, 0)]),
@@ -215,9 +249,7 @@ def records():
     for count, changes in RECORD:
         raw = changed(count, changes)
         try:
-            r = record(raw)
-            got = "message=%d d=0x%x x=0x%x distance=%d visits=%d" % (
-                r["message"], r["d"], r["x"], r["distance"], r["visits"])
+            got = found(record(raw))
         except Refused as no:
             got = no.text()
         out.append(given("record", count, changes) + " -> " + got)
@@ -255,5 +287,6 @@ def put(out):
 
 if __name__ == "__main__":
     check_document()
+    put(decodes())
     put(light())
     put(records())

@@ -1,5 +1,5 @@
 #!/usr/bin/env python3
-"""A plain, literal reading of document 01: recorded blocks -> lines of text.
+"""A plain, literal reading of document 01, with request K1 of document 02: recorded blocks -> lines of text.
 
 Nothing here is clever.  Every rule is written the way document 01 words it,
 so that a faster program can be checked against it.
@@ -12,6 +12,7 @@ that is at most some million steps) and stops with an error if the walk disagree
 import sys
 
 RECORD = 144
+LIMIT = 2047                          # "Levels from now on go from -2047 to 2047" (K1)
 MOST_RECORDS = 4294967295
 
 
@@ -169,7 +170,7 @@ def decode_record(record, self_check=False):
     if bin(folding).count("1") > 3:
         raise Refused(5)
     for i in range(size):
-        if not -1024 <= levels[i] <= 1024:
+        if not -LIMIT <= levels[i] <= LIMIT:
             raise Refused(6)
     walk = Walk(n, folding, allowance, mask, levels)
     walk.node(0, 0, 0)

@@ -100,9 +100,9 @@ def check_document():
     assert (r["message"], r["distance"], r["visits"]) == (0, 0, 8)
     samples = [1 / 512, 3 / 512, 5 / 512, -3 / 512, -0.0]                           # n
     assert [level_of(bits_of(s)) for s in samples] == [0, 2, 2, -2, 0]
-    assert level_of(bits_of(4.0)) == 1024 and level_of(bits_of(100.0)) == 1024      # o
-    assert refusal(decode, 3, 5, 0, 1000, [1024] + lv[1:]) == 0                     # p
-    assert refusal(decode, 3, 5, 0, 1000, [1025] + lv[1:]) == 6
+    assert level_of(bits_of(4.0)) == 1024 and level_of(bits_of(100.0)) == 2047      # o
+    assert refusal(decode, 3, 5, 0, 1000, [2047] + lv[1:]) == 0                     # p
+    assert refusal(decode, 3, 5, 0, 1000, [2048] + lv[1:]) == 6
     lv4 = [-256] * 16
     assert refusal(decode, 4, 5, 7, 100, lv4) == 0                                  # q
     assert refusal(decode, 4, 5, 15, 100, lv4) == 5
@@ -115,7 +115,7 @@ def check_document():
     for n in (1, 2, 3):
         for d in range(2 ** 2 ** n):
             assert codeword(n, codeword(n, d)) == d
-    assert 64 * (1024 + 256) ** 2 == 104857600
+    assert 64 * (LIMIT + 256) ** 2 == 339443776
     rng = random.Random(1)
     for _ in range(60):
         n = rng.randint(1, 4)

@@ -5,6 +5,7 @@ Nothing here comes from an implementation; every function below is the text's ow
 import struct
 from fractions import Fraction
 
+LIMIT = 2047          # "Levels from now on go from -2047 to 2047" (K1)
 U32 = 4294967295
 U64 = 18446744073709551615
 
@@ -109,6 +110,7 @@ def groups_of(n, folding):
 def walk(n, mask, folding, allowance, levels):
     """The text's walk. Gives (d, distance, visits) or refusal 7 or 8."""
     groups = groups_of(n, folding)
+    summed = [sum(1 << j for j in range(2 ** n) if i & j == i) for i in range(2 ** n)]   # the j of each x_i
     state = {"visits": 0, "best": None}
 
     def candidates(level, d_so_far):
@@ -119,11 +121,10 @@ def walk(n, mask, folding, allowance, levels):
             d = d_so_far
             for b, i in enumerate(free):
                 d |= ((fill >> b) & 1) << i
-            x = codeword(n, d)          # final on this group: only it and decided groups count
             u = 0
             branch = 0
             for b, i in enumerate(group):
-                bit = (x >> i) & 1
+                bit = ones(d & summed[i]) % 2          # final: only this group and decided ones count
                 u |= bit << b
                 branch += (levels[i] - ideal(bit)) ** 2
             found.append((branch, u, d))
@@ -195,10 +196,10 @@ def decode(n, mask, folding, allowance, levels):
         raise Refused(2)
     check_tree(n, mask, folding)
     for i, v in enumerate(levels):
-        if not -1024 <= v <= 1024:
+        if not -LIMIT <= v <= LIMIT:
             raise Refused(6, slot=i)
     d, dist, visits = walk(n, mask, folding, allowance, levels)
-    assert (dist, d) == listing(n, mask, levels)
+    assert len(unfrozen(n, mask)) > 16 or (dist, d) == listing(n, mask, levels)
     assert d & mask == 0 and visits <= allowance
     return {"message": unplace(n, mask, d), "d": d, "x": codeword(n, d), "distance": dist, "visits": visits}
 
@@ -236,7 +237,7 @@ def level_of(bits):
     else:
         near = low if low % 2 == 0 else low + 1
     assert abs(near - t) <= Fraction(1, 2)
-    return max(-1024, min(1024, near))
+    return max(-LIMIT, min(LIMIT, near))
 
 
 def new_assembler(n):
