@@ -15,7 +15,7 @@ ghost use Rattle.level.specs.Measuring.{measuredOf, measured};
 use word::Word;
 
 // The greatest magnitude of a level.
-pub const LIMIT: i32 = 1024;
+pub const LIMIT: i32 = 2047;
 
 // What a slot costs: at its nearer bit, and by how many times 1024 bit 0 and bit 1 cost more than that.
 pub struct Slot {

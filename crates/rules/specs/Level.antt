@@ -1,4 +1,4 @@
--- Document 01, "Levels and distance": ideal levels, the range, the distance, the least word.
+-- Document 01, "Levels and distance", with K1 of document 02: ideal levels, the range, the distance, the least word.
 -- Distance and least word are over any cost of a slot and a bit; `levelCost` is the one of received levels.
 use Prim.Native.Nat.{ℕ, zero, suc, _*_, _^_, _≤_}
 use mathlib.Core.Path.{_≡_}
@@ -19,11 +19,11 @@ ideal (suc b) = pos 256
 unfoldable pub idealLevels : ℕ → ℕ → List ℤ
 idealLevels n x = map (λ i. ideal (bit x i)) (listBelow (2 ^ n) (λ i. true))
 
--- "from -1024 to 1024": the greatest magnitude of a level
+-- K1: "Levels from now on go from -2047 to 2047": the greatest magnitude of a level
 abbrev pub limit : ℕ
-limit = 1024
+limit = 2047
 
--- "Received levels are signed 32-bit numbers from -1024 to 1024"
+-- "Received levels are signed 32-bit numbers", by K1 "from -2047 to 2047"
 abbrev pub inRange : ℤ → Bool
 inRange level = leb (natAbs level) limit
 

@@ -77,7 +77,7 @@ wrongFolding n folding = refuse 4 (leb (2 ^ n) folding)
 abbrev pub wideFolding : ℕ → Option Refusal
 wideFolding folding = refuse 5 (ltb 3 (ones folding))
 
--- 6: "a level lies outside -1024..1024; the first slot is named"
+-- "a level lies outside", by K1 "6 is given outside -2047..2047"; "the first slot is named"
 abbrev pub outOfRange : ℕ → List ℤ → Option Refusal
 outOfRange n levels = refuseAt 6 (firstBelow (2 ^ n) (λ i. not (inRange (levelAt levels i))))
 

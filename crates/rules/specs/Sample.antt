@@ -22,7 +22,7 @@ signed true m = negℤ (pos m)
 unfoldable pub unclipped : Bool → ℕ → ℤ → ℤ
 unclipped s m e = signed s (nearestWhole (256 * m * up e) (down e))
 
--- "then clipped to -1024 or 1024"
+-- "then clipped"; by K1 "the sample rule clips there", at -2047 or 2047
 abbrev pub clip : ℤ → ℤ
 clip (pos m) = pos (min m limit)
 clip (negsuc m) = negsuc (min m (limit - 1))
