@@ -14,6 +14,8 @@
 #include <stdlib.h>
 #include <string.h>
 
+enum { LIMIT = 2047 };          /* the greatest magnitude of a level */
+
 static uint64_t state;
 
 /* splitmix64 */
@@ -83,7 +85,7 @@ static void put(const struct record *r)
     fwrite(b, 1, sizeof b, stdout);
 }
 
-static int clip(int v) { return v < -1024 ? -1024 : v > 1024 ? 1024 : v; }
+static int clip(int v) { return v < -LIMIT ? -LIMIT : v > LIMIT ? LIMIT : v; }
 
 static void noisy_word(struct record *r, int sigma)
 {
@@ -137,7 +139,7 @@ static void some_levels(struct record *r)
     static const int sigmas[] = {0, 5, 20, 40, 60, 80, 100, 120, 150, 200, 300, 500};
     static const int sets[][5] = {
         {-256, 256, 0, 256, -256}, {0, 0, 0, 0, 0}, {-1, 0, 1, 0, 1}, {-256, 256, -256, 256, 256},
-        {-1024, 1024, 0, 1024, -1024}, {-300, -100, 100, 300, 200}, {-255, -256, 255, 256, 257},
+        {-LIMIT, LIMIT, 0, LIMIT, -LIMIT}, {-300, -100, 100, 300, 200}, {-255, -256, 255, 256, 257},
         {1, 2, 3, 4, -5}, {128, -128, 64, -64, 32}, {512, 256, -512, -256, 0}};
     int size = 1 << r->n, kind = (int)below(10), set = (int)below(10);
     if (kind < 5) {
@@ -147,7 +149,7 @@ static void some_levels(struct record *r)
                 r->level[i] = below(8) ? r->level[i] / 64 * 64 : 0;
     } else if (kind < 7) {
         for (int i = 0; i < size; i++)
-            r->level[i] = (int)below(2049) - 1024;
+            r->level[i] = (int)below(2 * LIMIT + 1) - LIMIT;
     } else if (kind < 9) {
         for (int i = 0; i < size; i++)
             r->level[i] = sets[set][below(5)];
@@ -200,7 +202,7 @@ static void damage(struct record *r)
     case 6: r->folding |= (int)below(256); break;
     case 7: r->folding = (1 << (r->n & 7)) - 1; break;
     default: {
-        static const int edge[] = {1024, 1025, -1024, -1025, 1023, -1023, 32767, -32768, 2048, -2048};
+        static const int edge[] = {LIMIT, LIMIT + 1, -LIMIT, -LIMIT - 1, LIMIT - 1, 1 - LIMIT, 32767, -32768, 1025, -1025};
         slot = (int)below(4);
         slot = slot == 0 ? 0 : slot == 1 ? size - 1 : (int)below((uint32_t)size);
         r->level[slot] = edge[below(10)];

@@ -5,8 +5,9 @@
  * every visit, one by one, in the document's order.  Plain C11, no code for vectors.
  *
  * What makes it fast within that form:
- * - An entry of a row is branch distance << 8 | pattern.  One comparison orders by branch distance,
- *   equals by smaller pattern.
+ * - An entry of a row is cost << 8 | pattern, where the cost is what the branch distance has above
+ *   that of the row's first pattern (at most 1024 * 2047 for each of eight slots: 32 bits hold it).
+ *   One comparison orders by branch distance, equals by smaller pattern.
  * - A slot doubles a row: to the patterns with the slot's nearer bit come the same with the farther
  *   one, each `step` higher.  These two halves are merged without branches, up to eight levels side
  *   by side.  An entry and that of the opposite pattern always have the same sum: the upper half of
@@ -19,18 +20,18 @@
 #include <stdio.h>
 #include <string.h>
 
-enum { RECORD = 144, PIECE = 512, LANES = 8 };
+enum { RECORD = 144, PIECE = 512, LANES = 8, LIMIT = 2047 };
 #define NONE (1 << 30)          /* more than any distance */
 #define INLINE static inline __attribute__((always_inline))
 
 /* A level of the tree, and its node that the walk is in. */
 struct level {
     _Alignas(64) int32_t first; /* branch distance of the row's first pattern, */
-    int32_t second;             /*   and of its second one, or 0 if some index is frozen */
+    int32_t second;             /*   what its second one costs, or 0 if some index is frozen */
     uint64_t change;            /* what the row's first pattern changes in the word */
     uint64_t frozen;            /* the group's frozen indices */
     uint64_t word;              /* node: the word on arrival */
-    int32_t partial;            /* node: partial distance on arrival */
+    int32_t partial;            /* node: partial distance with the row's first pattern */
     int32_t candidates;         /* how many each node has */
     const uint32_t *row;
     const uint32_t *place;      /* node: its first candidate, if that is not the row's first */
@@ -168,11 +169,13 @@ INLINE void build_all(const int size, const uint32_t *near, const uint32_t *step
 
 static void build_rows(const int16_t *received)
 {
+    int32_t nearest[64];                /* what the nearer bit costs */
     uint32_t near[64], step[64];        /* entry of the nearer bit; what the farther one adds */
     for (int i = 0; i < 1 << code_n; i++) {
         int32_t x = received[i], minus = -(x < 0), size = (x ^ minus) - minus;
         uint32_t bit = slot_bit[i], one = -(uint32_t)(x > 0);
-        near[i] = (uint32_t)((size - 256) * (size - 256)) << 8 | (bit & one);
+        nearest[i] = (size - 256) * (size - 256);
+        near[i] = bit & one;
         step[i] = ((uint32_t)size << 18) + ((bit ^ one) - one);
     }
     switch (group_size) {
@@ -184,7 +187,9 @@ static void build_rows(const int16_t *received)
             rows[2 * g] = near[g], rows[2 * g + 1] = near[g] + step[g];
     }
     for (struct level *v = tree + 1, *end = v + groups; v < end; v++) {
-        v->first = (int32_t)(v->row[0] >> 8);
+        v->first = 0;
+        for (int p = 0; p < group_size; p++)
+            v->first += nearest[slots[v - tree - 1][p]];
         v->second = v->frozen ? 0 : (int32_t)(v->row[1] >> 8);
         v->change = filling[v->row[0] & 0xff] * v->spread;
     }
@@ -210,13 +215,13 @@ static void walk(struct level *v, int32_t partial, uint64_t word)
     int32_t limit = best, total;
     const uint32_t *c;
     for (; (total = partial + v->first) <= limit; v--) {        /* down, to first candidates */
-        v->partial = partial;
+        v->partial = total;
         v->word = word;
         word ^= v->change;
         if (word & v->frozen) {
             c = v->row;
             do
-                word = word_of(v, *++c), total = partial + (int32_t)(*c >> 8);
+                word = word_of(v, *++c), total = v->partial + (int32_t)(*c >> 8);
             while (word & v->frozen && total <= limit);
             if (total > limit)
                 break;
@@ -275,7 +280,7 @@ static int decode(const uint8_t *record, uint64_t *message)
     if (n < 1 || n > 6) return 1;
     for (int i = 0; i < 64; i++) {
         received[i] = (int16_t)(record[16 + 2 * i] | record[17 + 2 * i] << 8);
-        outside |= (uint16_t)(received[i] + 1024) > 2048;
+        outside |= (uint16_t)(received[i] + LIMIT) > 2 * LIMIT;
     }
     for (int i = 1 << n; i < 64; i++)
         not_zero |= received[i];

@@ -21,7 +21,7 @@
 #include <emmintrin.h>
 #endif
 
-enum { RECORD = 144, PIECE = 512 };
+enum { RECORD = 144, PIECE = 512, LIMIT = 2047 };
 #define COST (~0xff)            /* the cost part of a key */
 #define END (1 << 30)           /* stands behind the last candidate of a list, */
 #define MORE (END - 1)          /*   or behind the last one that can pass if more follow */
@@ -442,7 +442,7 @@ static int decode(const uint8_t *r, uint64_t *message, int32_t *distance)
     if (__builtin_popcount((unsigned)folding) > 3)
         return 5;
     for (int i = 0; i < 64; i++)
-        bad |= (uint16_t)(in[i] + 1024) > 2048;
+        bad |= (uint16_t)(in[i] + LIMIT) > 2 * LIMIT;
     if (bad)
         return 6;
     if (n != code_n || folding != code_folding || mask != code_mask)
