@@ -118,14 +118,17 @@ static void set_code(int n, int folding, uint64_t mask)
  * stand at the end of each row's place.  A merge puts the lower half of the 2m entries before
  * them, then its mirror image over them. */
 INLINE void build(uint32_t *row, const int lanes, const int size, uint8_t (*slot)[8],
-                  const uint32_t *near, const uint32_t *step)
+                  struct level *v, const uint64_t *near, const uint32_t *step)
 {
     uint32_t both[LANES];               /* sum of an entry and its mirror image */
     for (int e = 0; e < lanes; e++) {   /* the first two slots: four entries */
-        uint32_t *end = row + e * size + size, least = 0;
+        uint32_t *end = row + e * size + size, least;
         uint32_t s = step[slot[e][0]], t = step[slot[e][1]];
+        uint64_t sum = 0;
         for (int p = 0; 1 << p < size; p++)
-            least += near[slot[e][p]];
+            sum += near[slot[e][p]];
+        v[e].first = (int32_t)(sum >> 8);
+        least = sum & 0xff;
         end[-4] = least;
         end[-3] = least + (s < t ? s : t);
         end[-2] = least + (s < t ? t : s);
@@ -155,27 +158,26 @@ INLINE void build(uint32_t *row, const int lanes, const int size, uint8_t (*slot
     }
 }
 
-INLINE void build_all(const int size, const uint32_t *near, const uint32_t *step)
+INLINE void build_all(const int size, const uint64_t *near, const uint32_t *step)
 {
     switch (groups) {
-    case 1: build(rows, 1, size, slots, near, step); break;
-    case 2: build(rows, 2, size, slots, near, step); break;
-    case 4: build(rows, 4, size, slots, near, step); break;
+    case 1: build(rows, 1, size, slots, tree + 1, near, step); break;
+    case 2: build(rows, 2, size, slots, tree + 1, near, step); break;
+    case 4: build(rows, 4, size, slots, tree + 1, near, step); break;
     default:
         for (int g = 0; g < groups; g += LANES)
-            build(rows + g * size, LANES, size, slots + g, near, step);
+            build(rows + g * size, LANES, size, slots + g, tree + 1 + g, near, step);
     }
 }
 
 static void build_rows(const int16_t *received)
 {
-    int32_t nearest[64];                /* what the nearer bit costs */
-    uint32_t near[64], step[64];        /* entry of the nearer bit; what the farther one adds */
+    uint64_t near[64];                  /* cost << 8 | pattern of the nearer bit */
+    uint32_t step[64];                  /* what the farther bit adds to an entry */
     for (int i = 0; i < 1 << code_n; i++) {
         int32_t x = received[i], minus = -(x < 0), size = (x ^ minus) - minus;
         uint32_t bit = slot_bit[i], one = -(uint32_t)(x > 0);
-        nearest[i] = (size - 256) * (size - 256);
-        near[i] = bit & one;
+        near[i] = (uint32_t)((size - 256) * (size - 256)) << 8 | (bit & one);
         step[i] = ((uint32_t)size << 18) + ((bit ^ one) - one);
     }
     switch (group_size) {
@@ -183,13 +185,12 @@ static void build_rows(const int16_t *received)
     case 4: build_all(16, near, step); break;
     case 8: build_all(256, near, step); break;
     default:
-        for (int g = 0; g < groups; g++)
-            rows[2 * g] = near[g], rows[2 * g + 1] = near[g] + step[g];
+        for (int g = 0; g < groups; g++) {
+            tree[g + 1].first = (int32_t)(near[g] >> 8);
+            rows[2 * g] = near[g] & 0xff, rows[2 * g + 1] = (near[g] & 0xff) + step[g];
+        }
     }
     for (struct level *v = tree + 1, *end = v + groups; v < end; v++) {
-        v->first = 0;
-        for (int p = 0; p < group_size; p++)
-            v->first += nearest[slots[v - tree - 1][p]];
         v->second = v->frozen ? 0 : (int32_t)(v->row[1] >> 8);
         v->change = filling[v->row[0] & 0xff] * v->spread;
     }
