@@ -1,6 +1,6 @@
 /* peer - the program `blocks` of document 01, in that document's own form:  peer < records > lines
  *
- * For each level of the tree the whole sorted row of patterns with their branch distances is built,
+ * For each level of the tree the whole sorted row of patterns, by branch distance, is built,
  * slot by slot, by merging two sorted halves.  Then a depth-first recursion over the levels makes
  * every visit, one by one, in the document's order.  Plain C11, no code for vectors.
  *
@@ -21,13 +21,14 @@
 #include <string.h>
 
 enum { RECORD = 144, PIECE = 512, LANES = 8, LIMIT = 2047 };
+_Static_assert(8 * 1024 * LIMIT < 1 << 24, "the cost of eight slots has 24 bits in an entry");
 #define NONE (1 << 30)          /* more than any distance */
 #define INLINE static inline __attribute__((always_inline))
 
 /* A level of the tree, and its node that the walk is in. */
 struct level {
     _Alignas(64) int32_t first; /* branch distance of the row's first pattern, */
-    int32_t second;             /*   what its second one costs, or 0 if some index is frozen */
+    int32_t second;             /*   and what the second costs above it, 0 if some index is frozen */
     uint64_t change;            /* what the row's first pattern changes in the word */
     uint64_t frozen;            /* the group's frozen indices */
     uint64_t word;              /* node: the word on arrival */

@@ -86,7 +86,7 @@ add("n 3, mask 0x05, message 1, folding 0, allowance 100", 3, 0, 100, 5, one)
 add("allowance 13, one visit short", 3, 0, 13, 5, one)
 add("folding 8 has a one at n", 3, 8, 100, 5, one)
 
-section("Rows of document 01's table")
+section("Rows of document 01's table, p by K1")
 add("g: folding 4, 8 visits", 3, 4, 100, 5, one)
 add("h: folding 7, 2 visits", 3, 7, 100, 5, one)
 add("i: slot 0 at -255", 3, 0, 1000, 5, but(one, 0, -255))
@@ -251,11 +251,13 @@ section("Levels on both sides of the end that the range had before K1")
 for slot in (0, 7):
     for value in (1024, 1025, -1024, -1025):
         add("n 3, slot %d is %d" % (slot, value), 3, 3, 10000, 5, but(one, slot, value))
+
+section("RM(64,57) with two strong slots, past the end before K1")
 strong = noisy(6, RM, 60)
 for slot in (58, 63):
     strong[slot] = clip(8 * strong[slot])
 for folding in (0, 33, 7):
-    add("RM(64,57), noise 60, slots 58 and 63 at %d and %d, folding %d" % (strong[58], strong[63], folding),
+    add("noise 60, slots 58 and 63 at %d and %d, folding %d" % (strong[58], strong[63], folding),
         6, folding, 200000, RM, strong)
 
 root = os.path.dirname(os.path.dirname(os.path.abspath(__file__)))

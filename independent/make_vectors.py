@@ -16,9 +16,8 @@ def given_decodes():
     root = os.path.dirname(os.path.dirname(os.path.abspath(__file__)))
     with open(os.path.join(root, "crates", "vectors", "stdin")) as cases:
         for line in cases:
-            call, *parts = line.split()
-            if call == "decode":
-                named = dict(part.split("=") for part in parts)
+            if line.startswith("decode "):
+                named = dict(part.split("=") for part in line.split()[1:])
                 levels = named.pop("levels")
                 yield line.strip(), {k: int(v, 0) for k, v in named.items()}, [int(v) for v in levels.split(",") if v]
 
@@ -112,7 +111,7 @@ def light():
         (3, 4294967296, ("erased",)), (3, U64, ("pair", f(1.0), f(1.0))),
         # the other sizes
         (4, 15, ("single", f(0.3))), (4, 17, ("erased",)), (5, 30, ("pair", f(3.0), f(-3.0))),
-        (5, 32, ("single", f(1.0))), (6, 31, ("pair", f(1.0), f(-1.0))), (6, 62, ("pair", f(4.0), f(-4.0))),
+        (5, 32, ("single", f(1.0))), (6, 31, ("pair", f(1.0), f(-1.0))), (6, 62, ("pair", f(8.0), f(-8.0))),
         (6, 63, ("erased",)), (6, 63, ("pair", f(1.0), f(1.0))), (6, 64, ("single", f(1.0))),
         (6, 65, ("erased",)),
     ]

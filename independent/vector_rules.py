@@ -1,4 +1,4 @@
-"""The rules of document 01 for words, the walk and light, literally and slowly.
+"""The rules of document 01, with request K1 of document 02, for words, the walk and light, literally and slowly.
 
 Nothing here comes from an implementation; every function below is the text's own sentence.
 """

@@ -1,4 +1,5 @@
--- Document 01 as definitions, a file for each part of it, in reading order. A definition stands under the sentence that it says.
+-- Document 01 as definitions, a file for each part of it, in reading order. A definition stands under the sentence that it says,
+-- which is a request's of document 02 where the request has landed and changed it (K1: levels).
 -- How to read one: `f : ℕ → ℤ → Bool` says that f takes a number from 0 up and one of either sign, and gives true or false; the
 -- lines below it say what `f a b` is. Cases go by form: `zero` or `suc m` (m + 1), `none` or `some v`, `[]` or `a ∷ rest`.
 -- `λ i. e` is the function that gives e for i. `l ++ m` is the list l and then m. `r .x` is the field x of the record r.

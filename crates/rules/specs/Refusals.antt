@@ -1,4 +1,4 @@
--- Document 01, "Refusal numbers": each number with its test, and the first refusal of an order.
+-- Document 01, "Refusal numbers", with K1 of document 02: each number with its test, and the first refusal of an order.
 use Prim.Native.Nat.{ℕ, suc, _+_, _-_, _^_}
 use mathlib.Core.Bool.{Bool, true, false, not, _||_}
 use mathlib.Core.Option.{Option, none, some}
@@ -77,7 +77,7 @@ wrongFolding n folding = refuse 4 (leb (2 ^ n) folding)
 abbrev pub wideFolding : ℕ → Option Refusal
 wideFolding folding = refuse 5 (ltb 3 (ones folding))
 
--- "a level lies outside", by K1 "6 is given outside -2047..2047"; "the first slot is named"
+-- 6: "a level lies outside", by K1 "outside -2047..2047"; "the first slot is named"
 abbrev pub outOfRange : ℕ → List ℤ → Option Refusal
 outOfRange n levels = refuseAt 6 (firstBelow (2 ^ n) (λ i. not (inRange (levelAt levels i))))
 

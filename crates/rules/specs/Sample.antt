@@ -1,4 +1,4 @@
--- Document 01, "From light to levels": the level of a sample.
+-- Document 01, "From light to levels", with K1 of document 02: the level of a sample.
 -- A float is the toolchain's own meaning of an f32: not a number, an infinity, or the exact value ±m * 2 ^ e.
 use Prim.Native.Nat.{ℕ, _-_, _*_, _/_, _%_, min, compare}
 use mathlib.Core.Bool.{Bool, true, false}
@@ -22,7 +22,7 @@ signed true m = negℤ (pos m)
 unfoldable pub unclipped : Bool → ℕ → ℤ → ℤ
 unclipped s m e = signed s (nearestWhole (256 * m * up e) (down e))
 
--- "then clipped"; by K1 "the sample rule clips there", at -2047 or 2047
+-- "then clipped"; K1: "Levels from now on go from -2047 to 2047, and the sample rule clips there."
 abbrev pub clip : ℤ → ℤ
 clip (pos m) = pos (min m limit)
 clip (negsuc m) = negsuc (min m (limit - 1))
