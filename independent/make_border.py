@@ -265,7 +265,7 @@ crate = os.path.join(root, "crates", "border")
 with open(os.path.join(crate, "stdin"), "wb") as binary, open(os.path.join(crate, "stdout"), "w") as text, \
         open(os.path.join(root, "docs", "BORDER.md"), "w") as notes:
     notes.write("# The recorded blocks at the borders\n\nWhat each record of crates/border/stdin is there for, and the line that "
-                "must come (crates/border/stdout). Both were made from documents 01 and 02 alone.\n")
+                "must come (crates/border/stdout). independent/ made both, from documents 01 and 02.\n")
     number = 0
     for title, records in sections:
         last = number + len(records) - 1

@@ -1,4 +1,7 @@
-"""The rules of document 01, with request K1 of document 02, for recorded blocks, and its rows of numbers checked against all of the rules."""
+"""The rules of document 01, with request K1 of document 02, for recorded blocks.
+
+Its rows of numbers are checked against all of the rules.
+"""
 import random
 import struct
 
