@@ -1,5 +1,5 @@
 -- Document 01, "Orders": the refusals of each call in the order in which they are tested; the first that is given is the answer.
--- A record's order stands in Record.antt, beside the tests of its bytes.
+-- A record's order stands in Record.antt and a request's in Request.antt, beside the tests of their bytes.
 use Prim.Native.Nat.{ℕ}
 use mathlib.Core.Option.{Option}
 use mathlib.Core.List.{List, [], _∷_, _++_}
@@ -26,7 +26,7 @@ encodeLevelsOrder n slice mask message =
 unfoldable pub foldingOrder : ℕ → ℕ → List (Option Refusal)
 foldingOrder n folding = wrongFolding n folding ∷ wideFolding folding ∷ []
 
--- 1, 3, 4, 5: the tests of a code and a folding, which decoding and a record have in common
+-- 1, 3, 4, 5: the tests of a code and a folding, which decoding, a record and a request have in common
 unfoldable pub foldedOrder : ℕ → ℕ → ℕ → List (Option Refusal)
 foldedOrder n mask folding = codeOrder n mask ++ foldingOrder n folding
 

@@ -54,22 +54,31 @@ answerText (refused r) = refusedWord ++ space ++ decimal (r .number)
 unfoldable pub line : ℕ → Answer Decoded → List ℕ
 line number a = decimal number ++ space ++ answerText a ++ lineEnd
 
--- the records that bytes hold, of which there are at most `most`; the last one may be short
-unfoldable pub recordsUpTo : ℕ → List ℕ → List (List ℕ)
-recordsUpTo zero bytes = []
-recordsUpTo (suc most) [] = []
-recordsUpTo (suc most) (b ∷ bs) = take recordBytes (b ∷ bs) ∷ recordsUpTo most (drop recordBytes (b ∷ bs))
+-- the line of the record with this number
+abbrev pub recordLine : ℕ → List ℕ → List ℕ
+recordLine number bytes = line number (recordAnswer bytes)
 
--- the lines of records, the first of them numbered `number`
-unfoldable pub linesFrom : ℕ → List (List ℕ) → List ℕ
-linesFrom number [] = []
-linesFrom number (r ∷ rs) = line number (recordAnswer r) ++ linesFrom (suc number) rs
+-- the first `most` records of `size` bytes that bytes hold; the last one may be short. A record is what a program reads, for `make`
+-- a request.
+unfoldable pub recordsUpTo : ℕ → ℕ → List ℕ → List (List ℕ)
+recordsUpTo size zero bytes = []
+recordsUpTo size (suc most) [] = []
+recordsUpTo size (suc most) (b ∷ bs) = take size (b ∷ bs) ∷ recordsUpTo size most (drop size (b ∷ bs))
+
+-- what is written for records, for each what `written` gives for its number and its bytes; the first of them is numbered `number`
+unfoldable pub eachFrom : (ℕ → List ℕ → List ℕ) → ℕ → List (List ℕ) → List ℕ
+eachFrom written number [] = []
+eachFrom written number (r ∷ rs) = written number r ++ eachFrom written (suc number) rs
 
 -- "No program of ours reads more than 4,294,967,295 records; it stops there."
 abbrev pub mostRecords : ℕ
 mostRecords = 4294967295
 
+-- what is written for bytes that hold records of `size` bytes, whose first is numbered `number`
+unfoldable pub writtenFrom : ℕ → (ℕ → List ℕ → List ℕ) → ℕ → List ℕ → List ℕ
+writtenFrom size written number bytes = eachFrom written number (recordsUpTo size (mostRecords - number) bytes)
+
 -- the text of bytes whose first record is numbered `number`: "A short last record gets its line; empty input prints nothing."
 -- From number 0 it is what `blocks` prints for the bytes of its standard input.
-unfoldable pub textFrom : ℕ → List ℕ → List ℕ
-textFrom number bytes = linesFrom number (recordsUpTo (mostRecords - number) bytes)
+abbrev pub textFrom : ℕ → List ℕ → List ℕ
+textFrom number bytes = writtenFrom recordBytes recordLine number bytes
