@@ -1,6 +1,7 @@
 -- Numbers: sums, counts, bits, digits and lists over the numbers below a bound. Nothing here knows of codes.
 pub mod Apart
 pub mod Bits
+pub mod BytesOf
 pub mod CountBelow
 pub mod Counts
 pub mod Deposits

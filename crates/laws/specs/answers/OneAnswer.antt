@@ -20,6 +20,10 @@ module _ {K : Type 0} {A R E : K → Type 0} where
   abbrev pub Shown : ((κs : K) → A κs → R κs → E κs → Type 0) → ((κs : K) → A κs → R κs → Type 0) → Type 0
   Shown contract property = (κs : K) (a : A κs) (r : R κs) (v : E κs) → contract κs a r v → property κs a r
 
+  -- and so has every result with the lent memory that it leaves
+  abbrev pub ShownLeft : ((κs : K) → A κs → R κs → E κs → Type 0) → ((κs : K) → A κs → R κs → E κs → Type 0) → Type 0
+  ShownLeft contract property = (κs : K) (a : A κs) (r : R κs) (v : E κs) → contract κs a r v → property κs a r v
+
   -- two results that meet the contract agree in what it does not leave open
   abbrev pub Agreed : ((κs : K) → A κs → R κs → R κs → Type 0) → ((κs : K) → A κs → R κs → E κs → Type 0) → Type 0
   Agreed same contract = (κs : K) (a : A κs) (r s : R κs) (v w : E κs) → contract κs a r v → contract κs a s w → same κs a r s

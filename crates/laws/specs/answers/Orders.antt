@@ -6,7 +6,7 @@ use mathlib.Core.Path.{_≡_, refl, sym, ap}
 use mathlib.Core.Logic.{_↔_}
 use mathlib.Core.Bool.{Bool, true, false, not, _||_}
 use mathlib.Core.Option.{Option, none, some, Option·none-ne-some}
-use mathlib.Core.List.{List, [], _∷_, _++_}
+use mathlib.Core.List.{List, [], _∷_, _++_, append-nil}
 use native.Mathlib.Omega.{arith}
 use lib.Count.{ones}
 use lib.Dec.{leb, ltb, eqb}
@@ -44,6 +44,10 @@ pub answer-refused : {A B : Type 0} (order more : List (Option Refusal)) (a : A)
 answer-refused [] more a b r e = let z : _≡_ {A = ℕ} 0 1 = cc in absurd (omega arith)
 answer-refused (none ∷ order) more a b r e = answer-refused order more a b r e
 answer-refused (some q ∷ order) more a b r e = let same : q ≡ r = cc in ap refused same
+
+-- and whatever its success
+pub refused-so : {A B : Type 0} (order : List (Option Refusal)) (a : A) (b : B) (r : Refusal) → answer order a ≡ refused r → answer order b ≡ refused r
+refused-so order a b r e = rw (append-nil order) at (answer-refused order [] a b r e)
 
 -- an order is passed exactly where both its parts are
 pub parts : (order more : List (Option Refusal)) → Passed (order ++ more) ↔ Passed order × Passed more

@@ -1,132 +1,146 @@
--- The text of bytes: none, its first record apart, from a place on, past the last record number, and cut after whole records: the
--- text of the first part, then that of the second from the next number on.
+-- What is written for bytes: for none, for the first record apart, from a place on, past the last record number, and cut after
+-- whole records: what is written for the first part, then for the second from the next number on. The records may have any size,
+-- and anything may be written for one.
 use Prim.Native.Nat.{ℕ, zero, suc, _+_, _-_, _*_, _≤_, _<_, min}
 use mathlib.Core.Path.{_≡_, refl, sym, _∙_, ap}
 use mathlib.Core.List.{List, [], _∷_, _++_, append-assoc}
-use native.Mathlib.Nat.{add-zero, sub-zero, zero-sub}
+use native.Mathlib.Nat.{add-zero, sub-zero, zero-sub, zero-mul, suc-mul}
 use native.Mathlib.Decide.{decLe}
 use native.Mathlib.Numerals.{add-one}
 use native.Mathlib.Omega.{arith}
 use lib.ListN.{length, take, drop, length-drop, drop-of-length-le}
 use lib.Seq.{drop-drop, take-all, take-append-le, drop-append-le}
-use Rattle.rules.specs.Record.{recordBytes, recordAnswer}
-use Rattle.rules.specs.Text.{line, recordsUpTo, linesFrom, mostRecords, textFrom}
+use Rattle.rules.specs.Text.{recordsUpTo, eachFrom, mostRecords, writtenFrom}
 
--- no bytes hold no record
-records-none : (most : ℕ) → recordsUpTo most [] ≡ []
-unfolding recordsUpTo
-records-none zero = refl
-records-none (suc most) = refl
+-- ---- the records of bytes
 
--- the records of whole records that are followed by other bytes
-records-append : (whole most : ℕ) (a b : List ℕ) → length a ≡ whole * recordBytes
-    → recordsUpTo most (a ++ b) ≡ recordsUpTo most a ++ recordsUpTo (most - whole) b
-unfolding recordsUpTo
-records-append zero most [] b e = rw (records-none most, sub-zero)
-records-append zero most (x ∷ a) b e = absurd (omega arith)
-records-append (suc whole) zero a b e = rw zero-sub
-records-append (suc whole) (suc most) [] b e = absurd (omega arith)
-records-append (suc whole) (suc most) (x ∷ a) b e =
-    let r = x ∷ a in
-    let left : suc most - suc whole ≡ most - whole = omega arith in
-    rw (left, take-append-le recordBytes r b (omega arith), drop-append-le recordBytes r b (omega arith))
-    (ap (λ (rs : List (List ℕ)). take recordBytes r ∷ rs) (records-append whole most (drop recordBytes r) b (rw length-drop (omega arith))))
+module _ (size : ℕ) where
+  -- no bytes hold no record
+  records-none : (most : ℕ) → recordsUpTo size most [] ≡ []
+  unfolding recordsUpTo
+  records-none zero = refl
+  records-none (suc most) = refl
 
--- how many there are
-records-count : (whole most : ℕ) (a : List ℕ) → length a ≡ whole * recordBytes → length (recordsUpTo most a) ≡ min most whole
-unfolding recordsUpTo
-records-count zero most [] e = rw (records-none most) (omega arith)
-records-count zero most (x ∷ a) e = absurd (omega arith)
-records-count (suc whole) zero a e = omega arith
-records-count (suc whole) (suc most) [] e = absurd (omega arith)
-records-count (suc whole) (suc most) (x ∷ a) e =
-    omega (arith, records-count whole most (drop recordBytes (x ∷ a)) (rw length-drop (omega arith)))
+  module _ (some : 0 < size) where
+    -- the records of whole records that are followed by other bytes
+    records-append : (whole most : ℕ) (a b : List ℕ) → length a ≡ whole * size
+        → recordsUpTo size most (a ++ b) ≡ recordsUpTo size most a ++ recordsUpTo size (most - whole) b
+    unfolding recordsUpTo
+    records-append zero most [] b e = rw (records-none most, sub-zero)
+    records-append zero most (x ∷ a) b e = absurd (omega (arith, zero-mul size))
+    records-append (suc whole) zero a b e = rw zero-sub
+    records-append (suc whole) (suc most) [] b e = absurd (omega (arith, suc-mul whole size))
+    records-append (suc whole) (suc most) (x ∷ a) b e =
+        let r = x ∷ a in
+        let left : suc most - suc whole ≡ most - whole = omega arith in
+        let more : length r ≡ whole * size + size = e ∙ suc-mul whole size in
+        rw (left, take-append-le size r b (omega (arith, more)), drop-append-le size r b (omega (arith, more)))
+        (ap (λ (rs : List (List ℕ)). take size r ∷ rs) (records-append whole most (drop size r) b (rw length-drop (omega (arith, more)))))
 
--- the lines of records that are followed by others
-lines-append : (number : ℕ) (rs ss : List (List ℕ)) → linesFrom number (rs ++ ss) ≡ linesFrom number rs ++ linesFrom (number + length rs) ss
-unfolding linesFrom
-lines-append number [] ss = rw add-zero
-lines-append number (r ∷ rs) ss =
+    -- how many there are
+    records-count : (whole most : ℕ) (a : List ℕ) → length a ≡ whole * size → length (recordsUpTo size most a) ≡ min most whole
+    unfolding recordsUpTo
+    records-count zero most [] e = rw (records-none most) (omega arith)
+    records-count zero most (x ∷ a) e = absurd (omega (arith, zero-mul size))
+    records-count (suc whole) zero a e = omega arith
+    records-count (suc whole) (suc most) [] e = absurd (omega (arith, suc-mul whole size))
+    records-count (suc whole) (suc most) (x ∷ a) e =
+        let more : length (x ∷ a) ≡ whole * size + size = e ∙ suc-mul whole size in
+        omega (arith, records-count whole most (drop size (x ∷ a)) (rw length-drop (omega (arith, more))))
+
+-- ---- a record that begins at a place
+
+-- where it ends: after its bytes, or where the bytes end
+abbrev pub recordEnd : ℕ → List ℕ → ℕ → ℕ
+recordEnd size bytes start = min (start + size) (length bytes)
+
+module _ (size : ℕ) (bytes : List ℕ) (start : ℕ) where
+  -- the bytes after it
+  end-drop : drop (recordEnd size bytes start) bytes ≡ drop size (drop start bytes)
+  end-drop = go (decLe (start + size) (length bytes)) ∙ sym (drop-drop size start bytes)
+    where
+      go : Dec (start + size ≤ length bytes) → drop (recordEnd size bytes start) bytes ≡ drop (start + size) bytes
+      go (yes l) =
+          let e : recordEnd size bytes start ≡ start + size = omega arith in
+          rw e
+      go (no l) =
+          drop-of-length-le bytes {i = recordEnd size bytes start} (omega arith)
+          ∙ sym (drop-of-length-le bytes {i = start + size} (omega arith))
+
+  -- the bytes of it
+  end-take : start ≤ length bytes → take (recordEnd size bytes start - start) (drop start bytes) ≡ take size (drop start bytes)
+  end-take inside = go (decLe (start + size) (length bytes))
+    where
+      go : Dec (start + size ≤ length bytes) → take (recordEnd size bytes start - start) (drop start bytes) ≡ take size (drop start bytes)
+      go (yes l) =
+          let e : recordEnd size bytes start - start ≡ size = omega arith in
+          rw e
+      go (no l) =
+          let short : length (drop start bytes) ≡ length bytes - start = length-drop start bytes in
+          take-all (recordEnd size bytes start - start) (drop start bytes) (omega (arith, short))
+          ∙ sym (take-all size (drop start bytes) (omega (arith, short)))
+
+-- ---- what is written
+
+-- what is written for records that are followed by others
+each-append : (written : ℕ → List ℕ → List ℕ) (number : ℕ) (rs ss : List (List ℕ))
+    → eachFrom written number (rs ++ ss) ≡ eachFrom written number rs ++ eachFrom written (number + length rs) ss
+unfolding eachFrom
+each-append written number [] ss = rw add-zero
+each-append written number (r ∷ rs) ss =
     let e : number + suc (length rs) ≡ suc number + length rs = omega arith in
-    rw (e, append-assoc) (ap (λ (t : List ℕ). line number (recordAnswer r) ++ t) (lines-append (suc number) rs ss))
+    rw (e, append-assoc) (ap (λ (t : List ℕ). written number r ++ t) (each-append written (suc number) rs ss))
 
--- past the last record nothing is printed
-pub text-stops : (number : ℕ) (bytes : List ℕ) → mostRecords ≤ number → textFrom number bytes ≡ []
-unfolding textFrom recordsUpTo linesFrom
-text-stops number bytes l =
-    let e : mostRecords - number ≡ 0 = omega arith in
-    rw e
+module _ (size : ℕ) (written : ℕ → List ℕ → List ℕ) where
+  -- past the last record nothing is written
+  pub written-stops : (number : ℕ) (bytes : List ℕ) → mostRecords ≤ number → writtenFrom size written number bytes ≡ []
+  unfolding writtenFrom recordsUpTo eachFrom
+  written-stops number bytes l =
+      let e : mostRecords - number ≡ 0 = omega arith in
+      rw e
 
--- "empty input prints nothing"
-pub text-none : (number : ℕ) → textFrom number [] ≡ []
-unfolding textFrom linesFrom
-text-none number = rw (records-none (mostRecords - number))
+  -- for no bytes nothing is: "empty input prints nothing"
+  pub written-none : (number : ℕ) → writtenFrom size written number [] ≡ []
+  unfolding writtenFrom eachFrom
+  written-none number = rw (records-none size (mostRecords - number))
 
--- the first record's line, then the text of the bytes after it
-text-step : (number : ℕ) (bytes : List ℕ) → number < mostRecords → 0 < length bytes
-    → textFrom number bytes ≡ line number (recordAnswer (take recordBytes bytes)) ++ textFrom (suc number) (drop recordBytes bytes)
-unfolding textFrom recordsUpTo linesFrom
-text-step number [] l some = absurd (omega arith)
-text-step number (x ∷ xs) l some =
-    let e : mostRecords - number ≡ suc (mostRecords - suc number) = omega arith in
-    rw e
+  -- what is written for the first record, then for the bytes after it
+  written-step : (number : ℕ) (bytes : List ℕ) → number < mostRecords → 0 < length bytes
+      → writtenFrom size written number bytes ≡ written number (take size bytes) ++ writtenFrom size written (suc number) (drop size bytes)
+  unfolding writtenFrom recordsUpTo eachFrom
+  written-step number [] l some = absurd (omega arith)
+  written-step number (x ∷ xs) l some =
+      let e : mostRecords - number ≡ suc (mostRecords - suc number) = omega arith in
+      rw e
 
--- where the record that begins at a place ends: after its bytes, or where the bytes end
-abbrev pub recordEnd : List ℕ → ℕ → ℕ
-recordEnd bytes start = min (start + recordBytes) (length bytes)
+  -- from a place on: what is written for the record that begins there, then from its end on
+  pub written-from : (number start end : ℕ) (bytes : List ℕ) → end ≡ recordEnd size bytes start → number < mostRecords → start < length bytes
+      → writtenFrom size written number (drop start bytes)
+      ≡ written number (take (end - start) (drop start bytes)) ++ writtenFrom size written (number + 1) (drop end bytes)
+  written-from number start end bytes e few some =
+      let left : length (drop start bytes) ≡ length bytes - start = length-drop start bytes in
+      rw (e, end-take size bytes start (omega arith), end-drop size bytes start, add-one number)
+      (written-step number (drop start bytes) few (omega (arith, left)))
 
--- the bytes after it
-end-drop : (bytes : List ℕ) (start : ℕ) → drop (recordEnd bytes start) bytes ≡ drop recordBytes (drop start bytes)
-end-drop bytes start = go (decLe (start + recordBytes) (length bytes)) ∙ sym (drop-drop recordBytes start bytes)
-  where
-    go : Dec (start + recordBytes ≤ length bytes) → drop (recordEnd bytes start) bytes ≡ drop (start + recordBytes) bytes
-    go (yes l) =
-        let e : recordEnd bytes start ≡ start + recordBytes = omega arith in
-        rw e
-    go (no l) =
-        drop-of-length-le bytes {i = recordEnd bytes start} (omega arith)
-        ∙ sym (drop-of-length-le bytes {i = start + recordBytes} (omega arith))
+  -- any cutting of bytes after whole records gives the same
+  pub written-append : 0 < size → (number whole : ℕ) (a b : List ℕ) → length a ≡ whole * size
+      → writtenFrom size written number (a ++ b) ≡ writtenFrom size written number a ++ writtenFrom size written (number + whole) b
+  unfolding writtenFrom recordsUpTo eachFrom
+  written-append some number whole a b e =
+      rw (records-append size some whole most a b e)
+      (each-append written number (recordsUpTo size most a) (recordsUpTo size (most - whole) b)
+      ∙ ap (λ (t : List ℕ). eachFrom written number (recordsUpTo size most a) ++ t) (go (decLe whole most)))
+    where
+      most : ℕ
+      most = mostRecords - number
 
--- the bytes of it
-end-take : (bytes : List ℕ) (start : ℕ) → start ≤ length bytes
-    → take (recordEnd bytes start - start) (drop start bytes) ≡ take recordBytes (drop start bytes)
-end-take bytes start inside = go (decLe (start + recordBytes) (length bytes))
-  where
-    go : Dec (start + recordBytes ≤ length bytes) → take (recordEnd bytes start - start) (drop start bytes) ≡ take recordBytes (drop start bytes)
-    go (yes l) =
-        let e : recordEnd bytes start - start ≡ recordBytes = omega arith in
-        rw e
-    go (no l) =
-        let short : length (drop start bytes) ≡ length bytes - start = length-drop start bytes in
-        take-all (recordEnd bytes start - start) (drop start bytes) (omega (arith, short))
-        ∙ sym (take-all recordBytes (drop start bytes) (omega (arith, short)))
-
--- the text from a place on: the line of the record that begins there, then the text from its end on
-pub text-from : (number start end : ℕ) (bytes : List ℕ) → end ≡ recordEnd bytes start → number < mostRecords → start < length bytes
-    → textFrom number (drop start bytes)
-    ≡ line number (recordAnswer (take (end - start) (drop start bytes))) ++ textFrom (number + 1) (drop end bytes)
-text-from number start end bytes e few some =
-    let left : length (drop start bytes) ≡ length bytes - start = length-drop start bytes in
-    rw (e, end-take bytes start (omega arith), end-drop bytes start, add-one number)
-    (text-step number (drop start bytes) few (omega (arith, left)))
-
--- any cutting of bytes after whole records gives one text
-pub text-append : (number whole : ℕ) (a b : List ℕ) → length a ≡ whole * recordBytes
-    → textFrom number (a ++ b) ≡ textFrom number a ++ textFrom (number + whole) b
-unfolding textFrom recordsUpTo linesFrom
-text-append number whole a b e =
-    rw (records-append whole most a b e)
-    (lines-append number (recordsUpTo most a) (recordsUpTo (most - whole) b)
-    ∙ ap (λ (t : List ℕ). linesFrom number (recordsUpTo most a) ++ t) (go (decLe whole most)))
-  where
-    most : ℕ
-    most = mostRecords - number
-
-    go : Dec (whole ≤ most) → linesFrom (number + length (recordsUpTo most a)) (recordsUpTo (most - whole) b) ≡ textFrom (number + whole) b
-    go (yes all) =
-        let next : number + length (recordsUpTo most a) ≡ number + whole = omega (arith, records-count whole most a e) in
-        let left : most - whole ≡ mostRecords - (number + whole) = omega arith in
-        rw (next, left)
-    go (no more) =
-        let none : most - whole ≡ 0 = omega arith in
-        rw none (sym (text-stops (number + whole) b (omega arith)))
+      go : Dec (whole ≤ most)
+          → eachFrom written (number + length (recordsUpTo size most a)) (recordsUpTo size (most - whole) b)
+          ≡ writtenFrom size written (number + whole) b
+      go (yes all) =
+          let next : number + length (recordsUpTo size most a) ≡ number + whole = omega (arith, records-count size some whole most a e) in
+          let left : most - whole ≡ mostRecords - (number + whole) = omega arith in
+          rw (next, left)
+      go (no more) =
+          let none : most - whole ≡ 0 = omega arith in
+          rw none (sym (written-stops (number + whole) b (omega arith)))

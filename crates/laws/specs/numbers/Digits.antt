@@ -48,7 +48,7 @@ pub decimal-more-length : (v : ℕ) → 10 ≤ v → length (decimal v) ≡ leng
 decimal-more-length v l = ap length (decimal-more v l) ∙ length-append (decimal (v / 10)) (digit (v % 10) ∷ [])
 
 -- a number below a power of ten has no more digits than its exponent
-decimal-length : (k v : ℕ) → v < 10 ^ suc k → length (decimal v) ≤ suc k
+pub decimal-length : (k v : ℕ) → v < 10 ^ suc k → length (decimal v) ≤ suc k
 decimal-length zero v l = rw (decimal-one v l) (omega arith)
 decimal-length (suc k) v l =
     go (decLt v 10) (decimal-length k (v / 10) (omega (arith, pow-succ' 10 (suc k))))

@@ -132,12 +132,22 @@ module _ (n mask : ℕ) (cost : ℕ → ℕ → ℕ) (folding w : ℕ) (clean : 
       rw (r .4, r .5, clean-walk k (d + r .0) (suc v) (node-down n mask folding k d (r .0) node (r .2)) (r .3))
       (visit-rest (walk keepBest (candidates n mask cost folding) k) k d v (r .0) (r .1) (r .4) (r .6))
 
+  -- so does the whole walk
+  clean-whole : folding < 2 ^ n → permitted n mask w ≡ true → walkOf n mask cost folding ≡ found (0 + visitsOf n mask folding (groups n folding))
+  unfolding walkOf found
+  clean-whole fits allowed =
+      clean-walk (groups n folding) 0 0 (root n mask folding (groups n folding)) (completes-none n mask folding w fits allowed)
+
   -- the visits of a clean block: the groups, and one more for each with an unfrozen index
   pub clean-visits : folding < 2 ^ n → permitted n mask w ≡ true
       → walkVisits n mask cost folding ≡ groups n folding + countBelow (groups n folding) (λ k. hasUnfrozen mask (group n folding k))
-  unfolding walkOf visitsOf
-  clean-visits fits allowed = ap (λ (s : State keepBest). s .visits)
-      (clean-walk (groups n folding) 0 0 (root n mask folding (groups n folding)) (completes-none n mask folding w fits allowed)) ∙ zero-add _
+  unfolding visitsOf found
+  clean-visits fits allowed = ap (λ (s : State keepBest). s .visits) (clean-whole fits allowed) ∙ zero-add _
+
+  -- what is kept of it: the one word, at no cost
+  pub clean-kept : folding < 2 ^ n → permitted n mask w ≡ true → walkOf n mask cost folding .kept ≡ best 0 w
+  unfolding found
+  clean-kept fits allowed = ap (λ (s : State keepBest). s .kept) (clean-whole fits allowed)
 
 -- a bit costs nothing at its own ideal level, and the other bit costs
 ideal-free : (b : ℕ) → b < 2 → slotCost (ideal b) b ≡ 0
