@@ -2,20 +2,24 @@
 ghost use mathlib.Core.Path.{_≡_};
 ghost use mathlib.Core.Bool.{true};
 ghost use mathlib.Core.List.{map};
-ghost use Prim.Native.Nat.{_+_, _*_, _≤_, _<_};
+ghost use Prim.Native.Nat.{_≤_, _<_};
 ghost use lib.ListN.{length};
 ghost use Rattle.rules.specs.Below.{listBelow};
 ghost use Rattle.rules.specs.Refusals as rules;
-ghost use Rattle.rules.specs.Record.{numberAt, slotLevel, recordBytes, recordSlots, fieldsOf, readAnswer};
+ghost use Rattle.rules.specs.Record.{slotLevel, recordBytes, recordSlots, fieldsOf, readAnswer};
 ghost use Rattle.refusal.specs.Number.{refusalOf};
 ghost use Rattle.record.specs.Reading.{fieldsIn, answerOf, noFields, zerosAt};
+use field::eight;
+use field::four;
+use field::one;
+use field::two;
 use refusal::Refusal;
 use word::Word;
 
-const RECORD_BYTES: usize = 144;
+pub const RECORD_BYTES: usize = 144;
 
 // How many levels a record has, whatever its n.
-const RECORD_SLOTS: usize = 64;
+pub const RECORD_SLOTS: usize = 64;
 
 pub struct Fields {
     pub n: u32,
@@ -34,38 +38,6 @@ pub enum Verdict {
 pub struct Answer {
     pub verdict: Verdict,
     pub fields: Fields,
-}
-
-// The number in the byte at a place.
-fn one(bytes: &[u8], place: usize) -> u8
-    requires { ⌜ place < length (now bytes) ⌝ }
-    ensures { λ r. ⌜ r ≡ numberAt (now (bytes .entry)) place 1 ⌝ }
-{
-    bytes[place]
-}
-
-// The number in two bytes from a place on.
-fn two(bytes: &[u8], place: usize) -> u16
-    requires { ⌜ place + 2 ≤ length (now bytes) ⌝ }
-    ensures { λ r. ⌜ r ≡ numberAt (now (bytes .entry)) place 2 ⌝ }
-{
-    one(bytes, place) as u16 + 256 * (one(bytes, place + 1) as u16)
-}
-
-// The number in four bytes from a place on.
-fn four(bytes: &[u8], place: usize) -> u32
-    requires { ⌜ place + 4 ≤ length (now bytes) ⌝ }
-    ensures { λ r. ⌜ r ≡ numberAt (now (bytes .entry)) place 4 ⌝ }
-{
-    two(bytes, place) as u32 + 65536 * (two(bytes, place + 2) as u32)
-}
-
-// The number in eight bytes from a place on.
-fn eight(bytes: &[u8], place: usize) -> u64
-    requires { ⌜ place + 8 ≤ length (now bytes) ⌝ }
-    ensures { λ r. ⌜ r ≡ numberAt (now (bytes .entry)) place 8 ⌝ }
-{
-    four(bytes, place) as u64 + 4294967296 * (four(bytes, place + 4) as u64)
 }
 
 // The level of a slot.

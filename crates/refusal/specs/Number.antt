@@ -1,6 +1,7 @@
 -- Each refusal's number and values in document 01, and the refusal of the rules that they make.
-use Prim.Native.Nat.{ℕ}
+use Prim.Native.Nat.{ℕ, _<_}
 use mathlib.Core.List.{List, [], _∷_}
+use native.Mathlib.Omega.{arith}
 use Rattle.rules.specs.Refusals as rules
 use Rattle.refusal.specs.declared.Refusal.{Refusal}
 use Rattle.refusal.specs.declared.Refusal.the-variants.{Size, Length, Mask, Folding, WideFolding, Range, NoCandidate, Allowance, Message, NoRoom, NotFinite, NotZero, Short, NotFull}
@@ -42,3 +43,20 @@ valuesOf NotFull = []
 -- the refusal as the rules have it
 abbrev pub refusalOf : Refusal → rules.Refusal
 refusalOf r = record { number = numberOf r; values = valuesOf r }
+
+-- no number has more than two digits
+pub number-short : (r : Refusal) → numberOf r < 100
+number-short Size = omega arith
+number-short Length = omega arith
+number-short Mask = omega arith
+number-short Folding = omega arith
+number-short WideFolding = omega arith
+number-short (Range slot) = omega arith
+number-short (NoCandidate level) = omega arith
+number-short Allowance = omega arith
+number-short Message = omega arith
+number-short NoRoom = omega arith
+number-short (NotFinite sample) = omega arith
+number-short NotZero = omega arith
+number-short Short = omega arith
+number-short NotFull = omega arith

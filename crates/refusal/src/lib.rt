@@ -25,9 +25,9 @@ pub enum Refusal {
     NoRoom,
     // 11: a sample is NaN or infinite; the first such sample of the reading
     NotFinite(usize),
-    // 12: bytes 2 and 3 of a record, or a level beyond N, are not zero
+    // 12: bytes 2 and 3 of a record or a request, or a level of a record beyond N, are not zero
     NotZero,
-    // 13: a record has fewer than 144 bytes
+    // 13: a record has fewer than 144 bytes, or a request fewer than 24
     Short,
     // 14: levels were asked of an assembler that is not full
     NotFull,

@@ -1,9 +1,9 @@
--- `record::two` meets its contract: the law of two parts.
+-- `field::two` meets its contract: the law of two parts.
 use native.Mathlib.Omega.{arith}
 use Rattle.laws.specs.numbers.LittleEndian.{number-parts}
 use borrow.Author.Needs.{needs}
-use Rattle.record.proofs.two.Statement.{statement}
-use Rattle.record.proofs.two.Tie as tie
+use Rattle.field.proofs.two.Statement.{statement}
+use Rattle.field.proofs.two.Tie as tie
 
 one-requires : tie.Need-one-requires
 one-requires c κs = search needs

@@ -1,9 +1,9 @@
--- `record::four` meets its contract: the law of two parts.
+-- `field::four` meets its contract: the law of two parts.
 use native.Mathlib.Omega.{arith}
 use Rattle.laws.specs.numbers.LittleEndian.{number-parts}
 use borrow.Author.Needs.{needs}
-use Rattle.record.proofs.four.Statement.{statement}
-use Rattle.record.proofs.four.Tie as tie
+use Rattle.field.proofs.four.Statement.{statement}
+use Rattle.field.proofs.four.Tie as tie
 
 two-requires : tie.Need-two-requires
 two-requires c κs = search needs

@@ -1,9 +1,9 @@
--- `record::one` meets its contract.
+-- `field::one` meets its contract.
 use mathlib.Core.Path.{sym}
 use Rattle.laws.specs.numbers.LittleEndian.{number-one}
 use borrow.Author.Needs.{needs}
-use Rattle.record.proofs.one.Statement.{statement}
-use Rattle.record.proofs.one.Tie as tie
+use Rattle.field.proofs.one.Statement.{statement}
+use Rattle.field.proofs.one.Tie as tie
 
 shared-slice-read-result : tie.Need-shared-slice-read-result
 shared-slice-read-result c = search needs

@@ -1,9 +1,9 @@
--- `record::eight` meets its contract: the law of two parts.
+-- `field::eight` meets its contract: the law of two parts.
 use native.Mathlib.Omega.{arith}
 use Rattle.laws.specs.numbers.LittleEndian.{number-parts}
 use borrow.Author.Needs.{needs}
-use Rattle.record.proofs.eight.Statement.{statement}
-use Rattle.record.proofs.eight.Tie as tie
+use Rattle.field.proofs.eight.Statement.{statement}
+use Rattle.field.proofs.eight.Tie as tie
 
 four-requires : tie.Need-four-requires
 four-requires c κs = search needs
