@@ -1,4 +1,4 @@
 // The records on standard input, decoded.
 fn main() {
-    stream::run(b"blocks");
+    stream::run(b"blocks", pieces::Program::Blocks);
 }

@@ -1,2 +1,2 @@
 pub mod Pieces
-pub mod WholeText
+pub mod WholeInput

@@ -36,7 +36,7 @@ pub fn not_read(name: &[u8]) {
     os::fail(b": cannot read standard input");
 }
 
-// The same of a program that could not write, but not where the reader has gone away: who closes a pipe wants no more lines.
+// The same of a program that could not write, but not where the reader has gone away: who closes a pipe wants no more.
 pub fn not_written(name: &[u8]) {
     if os::errno() != libc::EPIPE {
         io::write_all(STDERR_FILENO, name);

@@ -8,13 +8,14 @@ use Rattle.stream.proofs.run.Statement.{statement}
 use Rattle.stream.proofs.run.Tie as tie
 
 abbrev Inv-loop : tie.InvT-loop
-Inv-loop name bytes₀ out₀ number₀ bytes out number = (length bytes ≡ length bytes₀) × (length out ≡ length out₀) × (number ≤ 4294967295)
+Inv-loop name program bytes₀ out₀ said₀ number₀ bytes out said number =
+    (length bytes ≡ length bytes₀) × (length out ≡ length out₀) × (length said ≡ length said₀) × (number ≤ 4294967295)
 
 abbrev μ-loop : tie.MeasureT-loop
-μ-loop name bytes₀ out₀ number₀ bytes out number = 4294967295 - number
+μ-loop name program bytes₀ out₀ said₀ number₀ bytes out said number = 4294967295 - number
 
 loop-holds : tie.Need-loop-holds Inv-loop μ-loop
-loop-holds c = (refl, refl, omega arith)
+loop-holds c = (refl, refl, refl, omega arith)
 
 slice-aggregate-pass : tie.Need-slice-aggregate-pass Inv-loop μ-loop
 slice-aggregate-pass c = sym (c .before .loop .inv .0 ∙ length-replicate {A = ℕ} _ 0)
@@ -22,15 +23,22 @@ slice-aggregate-pass c = sym (c .before .loop .inv .0 ∙ length-replicate {A = 
 slice-aggregate-pass-2 : tie.Need-slice-aggregate-pass-2 Inv-loop μ-loop
 slice-aggregate-pass-2 c = sym (c .before .before .loop .inv .1 ∙ length-replicate {A = ℕ} _ 0)
 
+slice-aggregate-pass-3 : tie.Need-slice-aggregate-pass-3 Inv-loop μ-loop
+slice-aggregate-pass-3 c = sym (c .before .before .before .loop .inv .2 ∙ length-replicate {A = ℕ} _ 0)
+
 pass-requires : tie.Need-pass-requires Inv-loop μ-loop
 pass-requires c κs =
-    (omega (arith, c .before .before .loop .inv .0, length-replicate {A = ℕ} 28800 0), omega (arith, c .before .before .loop .inv .1, length-replicate {A = ℕ} 11256 0))
+    let inv = c .before .before .before .loop .inv in (
+      omega (arith, inv .0, length-replicate {A = ℕ} 28800 0),
+      omega (arith, inv .1, length-replicate {A = ℕ} 28944 0),
+      omega (arith, inv .2, length-replicate {A = ℕ} 603 0),
+    )
 
 enum-known-next : tie.Need-enum-known-next Inv-loop μ-loop
 enum-known-next c = search needs
 
 loop-less : tie.Need-loop-less Inv-loop μ-loop
-loop-less c = omega (arith, rw (c .before .next .given .1) at (c .before .before .before .before .before .pass .ensures))
+loop-less c = omega (arith, rw (c .before .next .given .1) at (c .before .before .before .before .before .before .pass .ensures))
 
 loop-again : tie.Need-loop-again Inv-loop μ-loop
 loop-again c = search needs
@@ -68,6 +76,7 @@ run-spec =
     loop-holds
     slice-aggregate-pass
     slice-aggregate-pass-2
+    slice-aggregate-pass-3
     pass-requires
     enum-known-next
     loop-less

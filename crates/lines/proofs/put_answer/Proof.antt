@@ -1,7 +1,7 @@
--- `lines::piece::put_answer` meets its contract.
+-- `lines::put_answer` meets its contract.
 use borrow.Author.Needs.{needs}
-use Rattle.lines.proofs.piece.put_answer.Statement.{statement}
-use Rattle.lines.proofs.piece.put_answer.Tie as tie
+use Rattle.lines.proofs.put_answer.Statement.{statement}
+use Rattle.lines.proofs.put_answer.Tie as tie
 
 enum-known-answer : tie.Need-enum-known-answer
 enum-known-answer c = search needs
