@@ -1,13 +1,13 @@
 #!/usr/bin/env python3
 """Prints the lines of crates/vectors/stdout for `decode`, whose cases it reads from crates/vectors/stdin, and
-for the public calls of `sample`, `light`, `record` and `lines`.
+for the public calls of `sample`, `light`, `record`, `lines`, `request` and `pieces`.
 
   make_vectors.py | diff - <(sed -n '/^decode /p;/^level /,$p' crates/vectors/stdout)
 """
 import os
 from fractions import Fraction
 
-from vector_records import *
+from vector_pieces import *
 
 # ---------------------------------------------------------------- decode
 
@@ -148,7 +148,7 @@ def light():
     return out
 
 
-# ---------------------------------------------------------------- records and lines
+# ---------------------------------------------------------------- records
 
 def changed(count, changes):
     raw = bytearray(DOC[0])
@@ -229,10 +229,6 @@ RECORD = [
 ]
 
 
-def text_of(line):
-    return line.replace("\n", "/")
-
-
 def records():
     out = []
     for count, changes in READ:
@@ -252,28 +248,6 @@ def records():
         except Refused as no:
             got = no.text()
         out.append(given("record", count, changes) + " -> " + got)
-
-    # 7. lines
-    data = b"".join(DOC) + b"\xff" * 48
-    assert len(data) == 480
-    rows = []
-    for count in (0, 1, 143, 144, 145, 287, 288, 289, 431, 432, 433, 480):
-        rows.append((9 if count in (1, 145, 432) else 0, count, 56 * (count // 144 + 1)))
-    for count in (0, 143, 144, 287, 288, 431, 432, 480):
-        rows.append((0, count, 56 * (count // 144 + 1) - 1))
-    rows += [(0, 0, 0), (0, 432, 300), (9, 480, 300),
-             (4294967293, 480, 224), (4294967293, 145, 113),
-             (4294967294, 432, 224), (4294967294, 1, 56),
-             (U32, 432, 224), (U32, 432, 223), (U32, 1, 60)]
-    assert len(set(rows)) == len(rows)
-    for number, count, room in rows:
-        said = "lines number=%d bytes=%d room=%d -> " % (number, count, room)
-        text = lines(number, data[:count], room)
-        if text is None:
-            out.append(said + "no room left=%d" % room)
-        else:
-            assert len(text) <= room
-            out.append(said + "length=%d left=%d" % (len(text), room - len(text)) + (" " + text_of(text) if text else ""))
     return out
 
 
@@ -289,3 +263,6 @@ if __name__ == "__main__":
     put(decodes())
     put(light())
     put(records())
+    put(lines_of_pieces())
+    put(requests())
+    put(made())

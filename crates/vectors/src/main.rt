@@ -1,16 +1,18 @@
 // Border cases of the public calls, and the rows of document 01 that are not starred. A line of standard input is a call with
 // what it is given; it is printed again, with what came. A line that starts with '#' says what the lines below it are there for.
-// What must come is in the file `stdout`, which is written from document 01 and not by this program.
+// What must come is in the file `stdout`, which is written from documents 01 and 02 and not by this program.
 ghost use Prim.Native.Nat.{_≤_};
 
 mod assembling;
+mod buffers;
 mod codes;
 mod decoding;
 mod encoding;
 mod given;
 mod line;
-mod pieces;
+mod piece;
 mod records;
+mod requests;
 mod samples;
 mod words;
 
@@ -28,7 +30,10 @@ fn answer(line: &[u8], name: usize) {
         8 => assembling::give(line),
         9 => records::record(line, false),
         10 => records::record(line, true),
-        11 => pieces::lines(line),
+        11 => piece::lines(line),
+        12 => requests::read(line),
+        13 => requests::write(line),
+        14 => piece::made(line),
         _ => words::answer(line),
     }
 }
@@ -39,7 +44,7 @@ fn case(line: &[u8]) {
         printing::say(line);
         let name = line::name(
             line,
-            b"new guard encode encode_levels decode level new_assembler take give read record lines ",
+            b"new guard encode encode_levels decode level new_assembler take give read record lines request write made ",
         );
         answer(line, name);
         printing::end();

@@ -1,9 +1,9 @@
--- `vectors::pieces::shown` is safe and ends.
+-- `vectors::buffers::text` is safe and ends.
 use Prim.Native.Nat.{_≤_, _-_}
 use lib.ListN.{length}
 use borrow.Author.Needs.{needs}
-use Rattle.vectors.proofs.pieces.shown.Statement.{statement}
-use Rattle.vectors.proofs.pieces.shown.Tie as tie
+use Rattle.vectors.proofs.buffers.text.Statement.{statement}
+use Rattle.vectors.proofs.buffers.text.Tie as tie
 
 abbrev Inv-loop : tie.InvT-loop
 Inv-loop text i₀ i = i ≤ length text
@@ -38,8 +38,8 @@ loop-again c = search needs
 returns : tie.Need-returns Inv-loop μ-loop
 returns c = search needs
 
-pub shown-spec : {M : Type 1} → statement M
-shown-spec =
+pub text-spec : {M : Type 1} → statement M
+text-spec =
     tie.close
     (tie.spec
     Inv-loop

@@ -1,15 +1,15 @@
--- `vectors::pieces::left` is safe and ends.
+-- `vectors::buffers::left` is safe and ends.
 use Prim.Native.Nat.{_≤_, _-_}
 use lib.ListN.{length}
 use borrow.Author.Needs.{needs}
-use Rattle.vectors.proofs.pieces.left.Statement.{statement}
-use Rattle.vectors.proofs.pieces.left.Tie as tie
+use Rattle.vectors.proofs.buffers.left.Statement.{statement}
+use Rattle.vectors.proofs.buffers.left.Tie as tie
 
 abbrev Inv-loop : tie.InvT-loop
-Inv-loop out left₀ i₀ left i = (i ≤ length out) × (left ≤ i)
+Inv-loop buffer «from» left₀ i₀ left i = left ≤ i
 
 abbrev μ-loop : tie.MeasureT-loop
-μ-loop out left₀ i₀ left i = length out - i
+μ-loop buffer «from» left₀ i₀ left i = length buffer - i
 
 loop-holds : tie.Need-loop-holds Inv-loop μ-loop
 loop-holds c = search needs
