@@ -1,13 +1,15 @@
-/* clock - times programs that read records and print lines, ours first:
+/* clock - times programs over files of records, ours first:
  *
- *   clock ROUNDS COMMAND -- COMMAND -- COMMAND -- NAME RECORDS LINES [NAME RECORDS LINES ...]
+ *   clock ROUNDS COMMANDS COMMAND -- ... COMMAND -- NAME RECORDS LINES [NAME RECORDS LINES ...]
  *
- * A command may have several words.  Each case has its name in the table, the file of its records
- * and the file of the lines that they give (only its visits are read from there).  In each round
- * every command runs once over every case and once over no input.  A time is user plus system
- * time; of all rounds the median counts, less the median over no input.  Prints a row of a
- * Markdown table for each case: name, visits per block, nanoseconds per block of each command,
- * visits per second of the first in millions, and its time divided by that of each other one. */
+ * COMMANDS says how many there are; a command may have several words.  Each case has its name in
+ * the table, the file of its records and the file of the lines that they give (only its visits are
+ * read from there), or in place of that file how many records there are.  In each round every
+ * command runs once over every case and once over no input.  A time is user plus system time; of
+ * all rounds the median counts, less the median over no input.  Prints a row of a Markdown table
+ * for each case: name, visits per record, nanoseconds per record of each command, visits per second
+ * of the first in millions, and its time divided by that of each other one; where no file of lines
+ * is given, the row has no visits. */
 #define _DEFAULT_SOURCE
 #include <fcntl.h>
 #include <stdio.h>
@@ -17,7 +19,7 @@
 #include <sys/wait.h>
 #include <unistd.h>
 
-enum { COMMANDS = 3 };
+enum { MOST = 8 };              /* commands */
 
 static void fail(const char *what, const char *name)
 {
@@ -60,6 +62,11 @@ static double median(double *time, int rounds)
     return (time[(rounds - 1) / 2] + time[rounds / 2]) / 2;
 }
 
+static void usage(void)
+{
+    fail("usage", "clock ROUNDS COMMANDS COMMAND -- ... COMMAND -- NAME RECORDS LINES ...");
+}
+
 /* Counts the lines of a file, and their visits; every block of it must have been found. */
 static void read_lines(const char *name, double *blocks, double *visits)
 {
@@ -76,44 +83,61 @@ static void read_lines(const char *name, double *blocks, double *visits)
     fclose(lines);
 }
 
+/* A case's row: median times over it and over no input, in nanoseconds, of each command. */
+static void put_row(const char *name, const char *lines, int commands, const double *over, const double *none)
+{
+    char *end;
+    double ns[MOST], visits = 0, records = (double)strtoul(lines, &end, 10);
+    int counted = *end != 0;            /* not a number: a file of lines, with visits */
+    if (counted)
+        read_lines(lines, &records, &visits);
+    for (int c = 0; c < commands; c++)
+        ns[c] = (over[c] - none[c]) / records;
+    printf("| %s |", name);
+    if (counted)
+        printf(" %.1f |", visits / records);
+    for (int c = 0; c < commands; c++)
+        printf(" %.0f |", ns[c]);
+    if (counted)
+        printf(" %.1f |", visits / records / ns[0] * 1e3);
+    for (int c = 1; c < commands; c++)
+        printf(" %.2f |", ns[0] / ns[c]);
+    printf("\n");
+}
+
 int main(int argc, char **argv)
 {
-    char **command[COMMANDS];
-    int at = 2, rounds = argc > 1 ? atoi(argv[1]) : 0;
-    for (int c = 0; c < COMMANDS; c++) {
+    char **command[MOST];
+    int at = 3, rounds = argc > 1 ? atoi(argv[1]) : 0, commands = argc > 2 ? atoi(argv[2]) : 0;
+    if (rounds < 1 || commands < 1 || commands > MOST)
+        usage();
+    for (int c = 0; c < commands; c++) {
         command[c] = argv + at;
         while (at < argc && strcmp(argv[at], "--") != 0)
             at++;
         if (at >= argc || command[c] == argv + at)
-            fail("usage", "clock ROUNDS COMMAND -- COMMAND -- COMMAND -- NAME RECORDS LINES ...");
+            usage();
         argv[at++] = NULL;              /* ends the command's words */
     }
     int cases = (argc - at) / 3;
-    if (rounds < 1 || cases < 1 || (argc - at) % 3 != 0)
-        fail("usage", "clock ROUNDS COMMAND -- COMMAND -- COMMAND -- NAME RECORDS LINES ...");
+    if (cases < 1 || (argc - at) % 3 != 0)
+        usage();
     /* times[case][command][round], with no input as the last case */
-    double *times = calloc((size_t)(cases + 1) * COMMANDS * (size_t)rounds, sizeof *times);
+    double *times = calloc((size_t)(cases + 1) * (size_t)commands * (size_t)rounds, sizeof *times);
     if (!times)
         fail("no memory for", argv[1]);
-#define TIMES(i, c) (times + ((i) * COMMANDS + (c)) * rounds)
+#define TIMES(i, c) (times + ((i) * commands + (c)) * rounds)
     for (int r = 0; r < rounds; r++)
         for (int i = 0; i <= cases; i++)
-            for (int c = 0; c < COMMANDS; c++)
+            for (int c = 0; c < commands; c++)
                 TIMES(i, c)[r] = run(command[c], i < cases ? argv[at + 3 * i + 1] : "/dev/null");
-    double none[COMMANDS], ns[COMMANDS], blocks, visits;
-    for (int c = 0; c < COMMANDS; c++)
+    double none[MOST], over[MOST];
+    for (int c = 0; c < commands; c++)
         none[c] = median(TIMES(cases, c), rounds);
     for (int i = 0; i < cases; i++) {
-        read_lines(argv[at + 3 * i + 2], &blocks, &visits);
-        for (int c = 0; c < COMMANDS; c++)
-            ns[c] = (median(TIMES(i, c), rounds) - none[c]) / blocks;
-        printf("| %s | %.1f |", argv[at + 3 * i], visits / blocks);
-        for (int c = 0; c < COMMANDS; c++)
-            printf(" %.0f |", ns[c]);
-        printf(" %.1f |", visits / blocks / ns[0] * 1e3);
-        for (int c = 1; c < COMMANDS; c++)
-            printf(" %.2f |", ns[0] / ns[c]);
-        printf("\n");
+        for (int c = 0; c < commands; c++)
+            over[c] = median(TIMES(i, c), rounds);
+        put_row(argv[at + 3 * i], argv[at + 3 * i + 2], commands, over, none);
     }
     return fflush(stdout) || ferror(stdout);
 }

@@ -1,10 +1,12 @@
-/* gen - deterministic makers of record files (document 01's 144-byte records).
+/* gen - deterministic makers of files: document 01's 144-byte records, document 02's 24-byte requests.
  *
  *   gen mix   SEED COUNT [MOST]           all n, foldings, masks, damages; allowances
  *                                         up to MOST (default 200000) where walks may be long
  *   gen rm    SEED COUNT FOLDING SIGMA [ALLOWANCE]
  *                                         RM(64,57); SIGMA is the noise in levels, 0 is clean
  *   gen code  SEED COUNT N [SIGMA [MOST]] one random mask and folding for the whole file
+ *   gen requests   SEED COUNT             all n, foldings, masks, messages, damages
+ *   gen rmrequests SEED COUNT             RM(64,57), all of them good
  *
  * FOLDING "any" with rm means a random folding of 0..3 ones for each record.
  * The same arguments always give the same bytes: whole-number arithmetic only.
@@ -69,19 +71,34 @@ static uint64_t encode(uint64_t d)
     return d;
 }
 
-static void put(const struct record *r)
+/* Bytes 0 to 15, the same in a record and in a request. */
+static void put_fields(uint8_t *b, const struct record *r)
 {
-    uint8_t b[144];
     b[0] = (uint8_t)r->n, b[1] = (uint8_t)r->folding;
     b[2] = (uint8_t)r->byte2, b[3] = (uint8_t)r->byte3;
     for (int i = 0; i < 4; i++)
         b[4 + i] = (uint8_t)(r->allowance >> 8 * i);
     for (int i = 0; i < 8; i++)
         b[8 + i] = (uint8_t)(r->mask >> 8 * i);
+}
+
+static void put(const struct record *r)
+{
+    uint8_t b[144];
+    put_fields(b, r);
     for (int i = 0; i < 64; i++) {
         b[16 + 2 * i] = (uint8_t)r->level[i];
         b[17 + 2 * i] = (uint8_t)((unsigned)r->level[i] >> 8);
     }
+    fwrite(b, 1, sizeof b, stdout);
+}
+
+static void put_request(const struct record *r, uint64_t message)
+{
+    uint8_t b[24];
+    put_fields(b, r);
+    for (int i = 0; i < 8; i++)
+        b[16 + i] = (uint8_t)(message >> 8 * i);
     fwrite(b, 1, sizeof b, stdout);
 }
 
@@ -227,10 +244,42 @@ static void mixed(uint32_t most)
     put(&r);
 }
 
+/* A message on either side of its border: of `bits` bits, or with a one at or above that. */
+static uint64_t some_message(int bits)
+{
+    uint64_t all = bits ? ~(uint64_t)0 >> (64 - bits) : 0, message = rnd() & all;
+    uint32_t kind = below(16);
+    switch (kind) {
+    case 0: return 0;
+    case 1: return all;
+    case 2: return all ^ all >> 1;      /* its highest bit alone */
+    case 3: return bits < 64 ? (uint64_t)1 << bits : message;
+    case 4: return bits < 64 ? message | (uint64_t)1 << (bits + (int)below((uint32_t)(64 - bits))) : message;
+    case 5: return rnd();
+    default: return message;
+    }
+}
+
+static void mixed_request(void)
+{
+    struct record r;
+    memset(&r, 0, sizeof r);
+    r.n = 1 + (int)below(6);
+    r.folding = some_folding(r.n);
+    r.mask = some_mask(r.n);
+    r.allowance = (uint32_t)rnd();
+    r.allowance >>= below(32);
+    uint64_t message = some_message(count(ones(r.n) & ~r.mask));
+    if (below(6) == 0)                  /* those of levels change nothing */
+        for (uint32_t k = 1 + below(3); k; k--)
+            damage(&r);
+    put_request(&r, message);
+}
+
 int main(int argc, char **argv)
 {
     if (argc < 4) {
-        fprintf(stderr, "gen mix|rm|code SEED COUNT ...\n");
+        fprintf(stderr, "gen mix|rm|code|requests|rmrequests SEED COUNT ...\n");
         return 2;
     }
     state = strtoull(argv[2], NULL, 0) * 0xd1342543de82ef95u + 1;
@@ -264,8 +313,15 @@ int main(int argc, char **argv)
             noisy_word(&r, sigma);
             put(&r);
         }
+    } else if (!strcmp(argv[1], "requests")) {
+        for (; total; total--)
+            mixed_request();
+    } else if (!strcmp(argv[1], "rmrequests")) {
+        struct record r = {.n = 6, .folding = 7, .allowance = 16, .mask = 0x0000000100010117u};
+        for (; total; total--)
+            put_request(&r, rnd() >> 7);        /* 57 bits */
     } else {
-        fprintf(stderr, "gen mix|rm|code SEED COUNT ...\n");
+        fprintf(stderr, "gen mix|rm|code|requests|rmrequests SEED COUNT ...\n");
         return 2;
     }
     return fflush(stdout) ? 1 : 0;
