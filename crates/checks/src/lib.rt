@@ -1,4 +1,6 @@
 // The tests of a code and of a folding, said once for every call that begins with them.
+#![tactic(auto)]
+
 ghost use Rattle.std.specs.Prelude.{◌≡◌};
 ghost use Rattle.word.specs.Words.{word_of};
 ghost use Rattle.checks.specs.Verdicts.{verdict_of, code_verdict, folded_verdict};
@@ -6,7 +8,7 @@ ghost use Rattle.checks.specs.Verdicts.{verdict_of, code_verdict, folded_verdict
 use refusal::Refusal;
 use word::Word;
 
-#[derive(Drop)]
+#[derive(Clone, Copy)]
 pub enum Verdict {
     Right,
     Refused(Refusal),

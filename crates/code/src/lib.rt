@@ -1,5 +1,7 @@
 // Codes: an n with a frozen mask. The constructor, the guard, and encoding to words or to ideal levels.
 // A Code is plain data that a caller can make up, so every function that takes one refuses 1 and 3 itself.
+#![tactic(auto)]
+
 pub mod levels;
 
 ghost use Rattle.std.specs.Prelude.{◌≡◌};
@@ -13,21 +15,21 @@ use refusal::Refusal;
 use word::Word;
 use word::count::Fewest;
 
-#[derive(Drop)]
+#[derive(Clone, Copy)]
 pub struct Code {
     pub n: u32,
     pub frozen: Word,
 }
 
 // A code, or why there is none.
-#[derive(Drop)]
+#[derive(Clone, Copy)]
 pub enum Made {
     Code(Code),
     Refused(Refusal),
 }
 
 // The guard; that there is none, for K = 0; or a refusal.
-#[derive(Drop)]
+#[derive(Clone, Copy)]
 pub enum Guard {
     Guard(u32),
     NoGuard,
@@ -35,7 +37,7 @@ pub enum Guard {
 }
 
 // The information word and the codeword of a message, or a refusal.
-#[derive(Drop)]
+#[derive(Clone, Copy)]
 pub enum Encoded {
     Words(Word, Word),
     Refused(Refusal),

@@ -1,5 +1,7 @@
 // Numbers in bytes, the lowest byte first, as the fields of records and requests are: read from a place on, and put into a lent
 // buffer from a place on, which answers the place behind. A caller proves that the bytes are there.
+#![tactic(auto)]
+
 ghost use Rattle.std.specs.Prelude.{◌≡◌, ◌+◌, ◌≤◌, ◌<◌, length};
 ghost use Rattle.rules.specs.Record.{number_at};
 ghost use Rattle.rules.specs.Request.{bytes_of};

@@ -1,5 +1,7 @@
 // The tree of a folding, and what a walk reads of each group: what its patterns change in the word, and its frozen indices.
 // Words are in index order; seats only say which indices a group has.
+#![tactic(auto)]
+
 pub mod seat;
 
 ghost use Rattle.std.specs.Prelude.{◌≡◌, ◌+◌, ◌-◌, ◌^◌, ◌≤◌, ◌<◌, length};
@@ -13,7 +15,7 @@ ghost use Rattle.groups.specs.Grouping.{Grouped, Covered, Shut, Doubled, Changes
 use word::Word;
 
 // A tree: n, the folding, how many indices a group has, how many groups there are, and how many visits are allowed.
-#[derive(Drop)]
+#[derive(Clone, Copy)]
 pub struct Tree {
     pub n: u32,
     pub folding: u32,
@@ -69,7 +71,7 @@ pub fn shut(index: &[usize; word::SLOTS], tree: Tree, frozen: Word) -> [Word; wo
 }
 
 // What is added to each word that is put behind: the word itself moved up, or a word.
-#[derive(Drop)]
+#[derive(Clone, Copy)]
 enum Step {
     Above(usize),
     Column(Word),

@@ -1,5 +1,7 @@
 // Levels: the limit, ideal levels, the range, the clip, and a word's distance from the levels of a block; below, what a slot gives.
 // Every public function is total. Another limit is one number here, LIMIT, and one in the rules, `limit`.
+#![tactic(auto)]
+
 pub mod cost;
 
 ghost use Rattle.std.specs.Prelude.{◌≡◌, ◌≤◌, ◌^◌, min, pos, nat_abs, length};
@@ -16,7 +18,7 @@ use word::Word;
 pub const LIMIT: i32 = 2047;
 
 // What a slot costs: at its nearer bit, and by how many times 1024 bit 0 and bit 1 cost more than that.
-#[derive(Drop)]
+#[derive(Clone, Copy)]
 pub struct Slot {
     pub nearest: u64,
     pub zero: u32,
@@ -24,7 +26,7 @@ pub struct Slot {
 }
 
 // A word's distance, or the first slot whose level is out of range.
-#[derive(Drop)]
+#[derive(Clone, Copy)]
 pub enum Measured {
     Distance(u32),
     OutOfRange(usize),

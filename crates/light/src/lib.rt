@@ -1,4 +1,6 @@
 // From light to levels: readings, and the assembler of one block.
+#![tactic(auto)]
+
 ghost use Rattle.std.specs.Prelude.{◌≡◌, ◌+◌, ◌≤◌, ◌<◌, length, take};
 ghost use Rattle.rules.specs.Assembling as rules;
 ghost use Rattle.rules.specs.Answers.{take_answer, take_left};
@@ -12,14 +14,14 @@ use sample::Quantised;
 const ROOM: usize = word::SLOTS;
 
 // An in-phase and a quadrature sample.
-#[derive(Drop)]
+#[derive(Clone, Copy)]
 pub struct Pair {
     pub in_phase: f32,
     pub quadrature: f32,
 }
 
 // A single sample, a pair of samples, or an erased slot.
-#[derive(Drop)]
+#[derive(Clone, Copy)]
 pub enum Reading {
     Single(f32),
     Pair(Pair),
@@ -27,14 +29,14 @@ pub enum Reading {
 }
 
 // What a call that can be refused answers.
-#[derive(Drop)]
+#[derive(Clone, Copy)]
 pub enum Verdict {
     Done,
     Refused(Refusal),
 }
 
 // The levels of a block for one n, as far as it is filled, and zeros behind them.
-#[derive(Drop)]
+#[derive(Clone, Copy)]
 pub struct Assembler {
     pub n: u32,
     pub filled: usize,
@@ -42,7 +44,7 @@ pub struct Assembler {
 }
 
 // A verdict, and the assembler that is handed back with it.
-#[derive(Drop)]
+#[derive(Clone, Copy)]
 pub struct Handed {
     pub verdict: Verdict,
     pub assembler: Assembler,

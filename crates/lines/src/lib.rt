@@ -1,4 +1,6 @@
 // Recorded blocks and their lines: a record decoded, the line of an answer, the line of a record.
+#![tactic(auto)]
+
 mod answers;
 pub mod block;
 

@@ -3,7 +3,7 @@ ghost use Rattle.std.specs.Prelude.{◌≤◌, length};
 
 use crate::rule;
 
-#[derive(Drop)]
+#[derive(Clone, Copy)]
 pub(crate) struct Least {
     pub(crate) d: u64,
     pub(crate) x: u64,

@@ -1,5 +1,7 @@
 // An independent second decoder by full listing, held against `tree::decode`: every mask and every folding at n = 1, 2, 3, and
 // sampled masks with every folding at n = 4. It prints how many cases were compared, and a line for each that differs.
+#![tactic(auto)]
+
 mod cases;
 mod compare;
 mod least;

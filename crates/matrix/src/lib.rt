@@ -1,4 +1,6 @@
 // The matrix map: a byte by the table of all 256 transformed bytes, a word by halves.
+#![tactic(auto)]
+
 mod table;
 
 ghost use Rattle.std.specs.Prelude.{◌≡◌};

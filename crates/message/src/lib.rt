@@ -1,4 +1,6 @@
 // Messages: to an information word and back, bit by bit over the unfrozen indices.
+#![tactic(auto)]
+
 ghost use Rattle.std.specs.Prelude.{cond, ◌≡◌, ◌*◌, ◌^◌, ◌<◌};
 ghost use Rattle.rules.specs.Refusals.{largest};
 ghost use Rattle.rules.specs.Word as rules;

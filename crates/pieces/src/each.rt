@@ -13,7 +13,7 @@ use refusal::Refusal;
 use request::Asked;
 
 // Where what was put ends, in each of the two buffers.
-#[derive(Drop)]
+#[derive(Clone, Copy)]
 pub(crate) struct Ends {
     pub out: usize,
     pub said: usize,

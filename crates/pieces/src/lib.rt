@@ -1,5 +1,7 @@
 // What a program over records writes for a piece of many: its records in turn, numbered on, each with its part of standard output
 // and of standard error, which stand in two lent buffers. Said once for every such program.
+#![tactic(auto)]
+
 mod each; // each.rt: what is written for one record
 
 ghost use Rattle.std.specs.Prelude.{◌≡◌, ◌+◌, ◌<◌, min};
@@ -12,7 +14,7 @@ use record::RECORD_BYTES;
 use request::REQUEST_BYTES;
 
 // The programs over records: `blocks` decodes recorded blocks, `make` writes the records of requests.
-#[derive(Drop)]
+#[derive(Clone, Copy)]
 pub enum Program {
     Blocks,
     Make,
@@ -25,7 +27,7 @@ pub const MOST_RECORDS: u32 = 4294967295;
 pub const REFUSAL_BYTES: usize = 3;
 
 // How many bytes stand in each buffer, or that one of them has no room.
-#[derive(Drop)]
+#[derive(Clone, Copy)]
 pub enum Written {
     Bytes(usize, usize),
     NoRoom,

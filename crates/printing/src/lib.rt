@@ -1,4 +1,6 @@
 // The parts of a line, written to standard output: text, numbers, levels and refusals.
+#![tactic(auto)]
+
 use libc::STDOUT_FILENO;
 use refusal::Refusal;
 

@@ -1,4 +1,6 @@
 // A record's fields from its 144 bytes, or the first refusal of 13, 1, 12, 3, 4, 5. Of a longer slice the first 144 bytes count.
+#![tactic(auto)]
+
 ghost use Rattle.std.specs.Prelude.{◌≡◌, true, map, ◌≤◌, ◌<◌, length};
 ghost use Rattle.rules.specs.Below.{list_below};
 ghost use Rattle.rules.specs.Refusals as rules;
@@ -15,7 +17,7 @@ pub const RECORD_BYTES: usize = 144;
 // How many levels a record has, whatever its n.
 pub const RECORD_SLOTS: usize = 64;
 
-#[derive(Drop)]
+#[derive(Clone, Copy)]
 pub struct Fields {
     pub n: u32,
     pub folding: u32,
@@ -24,14 +26,14 @@ pub struct Fields {
     pub levels: [i32; RECORD_SLOTS],
 }
 
-#[derive(Drop)]
+#[derive(Clone, Copy)]
 pub enum Verdict {
     Read,
     Refused(Refusal),
 }
 
 // The verdict with the fields, which are all zero where the record is refused.
-#[derive(Drop)]
+#[derive(Clone, Copy)]
 pub struct Answer {
     pub verdict: Verdict,
     pub fields: Fields,

@@ -1,8 +1,10 @@
 // The refusals of document 01 as one enum: a case for each number, holding the slot, level or sample that it names.
+#![tactic(auto)]
+
 ghost use Rattle.std.specs.Prelude.{◌≡◌};
 ghost use Rattle.refusal.specs.Number.{number_of};
 
-#[derive(Drop)]
+#[derive(Clone, Copy)]
 pub enum Refusal {
     // 1: n is not 1..6, or an assembler has such an n or more than N slots filled
     Size,

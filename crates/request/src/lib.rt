@@ -1,5 +1,7 @@
 // Requests for a record: a request's fields from its 24 bytes, or the first refusal of 13, 1, 12, 3, 4, 5, 9; below, its record.
 // A Request is plain data that a caller can make up, so writing its record refuses 1, 3, 4, 5, 9 itself.
+#![tactic(auto)]
+
 pub mod written;
 
 ghost use Rattle.std.specs.Prelude.{◌≡◌};
@@ -17,7 +19,7 @@ use word::Word;
 
 pub const REQUEST_BYTES: usize = 24;
 
-#[derive(Drop)]
+#[derive(Clone, Copy)]
 pub struct Request {
     pub n: u32,
     pub folding: u32,
@@ -27,7 +29,7 @@ pub struct Request {
 }
 
 // A request, or why there is none.
-#[derive(Drop)]
+#[derive(Clone, Copy)]
 pub enum Asked {
     Request(Request),
     Refused(Refusal),

@@ -15,7 +15,7 @@ use refusal::Refusal;
 use word::Word;
 
 // That the record was written; that the buffer has no room for it; or why there is none.
-#[derive(Drop)]
+#[derive(Clone, Copy)]
 pub enum Written {
     Record,
     NoRoom,

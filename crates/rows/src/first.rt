@@ -16,7 +16,7 @@ pub(crate) fn least(x: u32, y: u32) -> u32
 }
 
 // Two numbers in order.
-#[derive(Drop)]
+#[derive(Clone, Copy)]
 struct Ordered {
     low: u32,
     high: u32,

@@ -1,6 +1,8 @@
 // Sorted rows: of each group of slots every pattern of bits with what these add up to, in order.
 // An entry is the sum times 256 plus the pattern, so that the order of numbers is that of sums, and of patterns among equal
 // sums. The rows stand one after the other in a table of rows of 256 entries.
+#![tactic(auto)]
+
 mod first;
 mod lanes;
 mod table;

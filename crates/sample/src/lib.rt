@@ -1,5 +1,7 @@
 // The level of a sample: NaN and infinities told apart, a large magnitude clipped first, the whole number nearest to the scaled
 // sample worked out from its bits, and the clip.
+#![tactic(auto)]
+
 ghost use Rattle.std.specs.Prelude.{◌≡◌, ◌<◌, T};
 ghost use Rattle.std.specs.Float.Ieee.Scale.{finite};
 ghost use Rattle.rules.specs.Sample.{nearest_whole};
@@ -7,7 +9,7 @@ ghost use Rattle.rules.specs.Answers.{level_answer};
 ghost use Rattle.sample.specs.Steps.{within, whole_of, Near, quantised_of};
 
 // What becomes of a sample: its level, or refusal 11 for NaN and infinities.
-#[derive(Drop)]
+#[derive(Clone, Copy)]
 pub enum Quantised {
     Level(i32),
     NotFinite,

@@ -4,7 +4,7 @@ ghost use Rattle.std.specs.Prelude.{◌≤◌, length};
 use libc::{STDERR_FILENO, STDIN_FILENO};
 
 // How many bytes were read, and whether reading stopped because it failed.
-#[derive(Drop)]
+#[derive(Clone, Copy)]
 pub struct Got {
     pub len: usize,
     pub failed: bool,

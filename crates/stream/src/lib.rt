@@ -1,5 +1,7 @@
 // A program over the records on standard input: what it writes for each goes to standard output and to standard error, to the end of
 // the input or of the record numbers. All but the calls of the C library is in piece.rt, each step with its contract.
+#![tactic(auto)]
+
 mod calls; // calls.rt: reading, and what is said of a failure
 mod piece; // piece.rt: how much of the input a piece has, what is written for it, and the next piece
 
@@ -11,7 +13,7 @@ use piece::Next;
 use pieces::Program;
 
 // What comes after a piece: the next one, with its number; nothing more; or a call of the system failed.
-#[derive(Drop)]
+#[derive(Clone, Copy)]
 enum Passed {
     Next(u32),
     End,

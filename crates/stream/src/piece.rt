@@ -21,14 +21,14 @@ pub const ROOM: usize = (RECORDS as usize + 1) * RECORD_BYTES;
 pub const SAID: usize = (RECORDS as usize + 1) * REFUSAL_BYTES;
 
 // Where what is written ends, in each of the two buffers.
-#[derive(Drop)]
+#[derive(Clone, Copy)]
 pub struct Ends {
     pub out: usize,
     pub said: usize,
 }
 
 // The number of the next piece's first record, or that there is no next piece.
-#[derive(Drop)]
+#[derive(Clone, Copy)]
 pub enum Next {
     Piece(u32),
     End,

@@ -1,5 +1,7 @@
 // Parts of lines put into a lent buffer from a place on: bytes, a number in decimal, hexadecimal digits. Each answers the place
 // behind. A caller proves that the buffer has room.
+#![tactic(auto)]
+
 ghost use Rattle.std.specs.Prelude.{◌≡◌, ◌++◌, ◌+◌, ◌≤◌, ◌<◌, length};
 ghost use Rattle.rules.specs.Text as rules;
 ghost use Rattle.text.specs.Puts.{Put};

@@ -1,4 +1,6 @@
 // Decoding by the folded tree: the least word of received levels, under every folding.
+#![tactic(auto)]
+
 mod empty;
 mod slot;
 
@@ -13,7 +15,7 @@ use refusal::Refusal;
 use word::Word;
 
 // A finished decoding.
-#[derive(Drop)]
+#[derive(Clone, Copy)]
 pub struct Decoded {
     pub message: Word,
     pub d: Word,
@@ -22,7 +24,7 @@ pub struct Decoded {
     pub visits: u32,
 }
 
-#[derive(Drop)]
+#[derive(Clone, Copy)]
 pub enum Answer {
     Found(Decoded),
     Refused(Refusal),

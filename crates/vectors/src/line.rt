@@ -139,7 +139,7 @@ fn level(line: &[u8], place: usize) -> i32 {
     )
 }
 
-#[derive(Drop)]
+#[derive(Clone, Copy)]
 pub(crate) struct Given {
     pub(crate) count: usize,
     pub(crate) levels: [i32; 128],

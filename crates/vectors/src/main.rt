@@ -1,6 +1,8 @@
 // Border cases of the public calls, and the rows of document 01 that are not starred. A line of standard input is a call with
 // what it is given; it is printed again, with what came. A line that starts with '#' says what the lines below it are there for.
 // What must come is in the file `stdout`, which is written from documents 01 and 02 and not by this program.
+#![tactic(auto)]
+
 ghost use Rattle.std.specs.Prelude.{◌≤◌, length};
 
 mod assembling;

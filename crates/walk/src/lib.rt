@@ -1,6 +1,8 @@
 // The walk: depth-first recursion over the levels of the tree, the best word by value.
 // A node's word is the one whose codeword has the patterns decided so far, and zeros in the groups that are left. So a
 // pattern changes it in one way, whatever was decided before, and with no level left it is the information word.
+#![tactic(auto)]
+
 pub mod state;
 
 ghost use Rattle.std.specs.Prelude.{◌≡◌, ◌*◌, ◌%◌, eqb};

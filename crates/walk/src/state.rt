@@ -11,7 +11,7 @@ use word::Word;
 const NO_BEST: u64 = 4294967296;
 
 // What the walk has so far: the best word, its distance, and the visits. The allowance is used up where the visits are greater.
-#[derive(Drop)]
+#[derive(Clone, Copy)]
 pub struct Walked {
     pub word: Word,
     pub distance: u64,

@@ -10,7 +10,7 @@ ghost use Rattle.word.specs.Words.{word_of, size_of, fewest_of};
 use crate::{SLOTS, Word, bit, slots};
 
 // The fewest ones in an unfrozen index, or that no index is unfrozen.
-#[derive(Drop)]
+#[derive(Clone, Copy)]
 pub enum Fewest {
     Ones(u32),
     NoIndex,

@@ -1,6 +1,8 @@
 // Words with a bit for each slot of the largest block: from numbers and back, a bit, sums modulo 2, common ones and comparison;
 // below, counts, single ones, and words moved up and copied.
 // Every public function but `place::copies` is total, and every contract reads a word through `word_of`.
+#![tactic(auto)]
+
 pub mod count;
 pub mod place;
 

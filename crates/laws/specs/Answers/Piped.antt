@@ -135,6 +135,8 @@ lines_found number (r ∷ rs) = line number (done (decoded_sent r)) ++ lines_fou
 sent_lines : (number : ℕ) (requests : List (List ℕ)) (rs : List Request) → AllSent requests rs → lines_sent number requests ≡ lines_found number rs
 unfolding lines_sent lines_found AllSent
 sent_lines number [] [] sent = refl
+sent_lines number [] (r ∷ rs) sent = elim sent [ ]
+sent_lines number (q ∷ qs) [] sent = elim sent [ ]
 sent_lines number (q ∷ qs) (r ∷ rs) (taken, enough, sent) = rw (taken, sent-found r enough, sent_lines (suc number) qs rs sent)
 
 -- such a file comes back whole

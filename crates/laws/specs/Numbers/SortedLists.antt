@@ -22,8 +22,11 @@ mem_map_at {A} {B} f (x ∷ xs) b m = ⊎_elim (λ (e : b ≡ f x). (x, Memᴰ.h
 
 -- a member's image is a member of the mapped list
 pub mem_map_of : {A B : Type 0} (f : A → B) (xs : List A) (a : A) → Memᴰ a xs → Memᴰ (f a) (map f xs)
-mem_map_of f xs a (Memᴰ.head e) = Memᴰ.head (ap f e)
-mem_map_of f xs a (Memᴰ.tail {xs = ys} m) = Memᴰ.tail (mem_map_of f ys a m)
+mem_map_of {A} {B} f xs a m = go a xs m
+  where
+    go : (a : A) (xs : List A) → Memᴰ a xs → Memᴰ (f a) (map f xs)
+    go a xs (Memᴰ.head e) = Memᴰ.head (ap f e)
+    go a xs (Memᴰ.tail {xs = ys} m) = Memᴰ.tail (go a ys m)
 
 -- a mapped list rises where the map carries the order of its members over
 pub rising-map : {A B : Type 0} (R : A → A → Type 0) (S : B → B → Type 0) (f : A → B) (xs : List A)

@@ -84,16 +84,20 @@ module _ (n F s k near forced shut : ℕ) where
   entries_of : (es : List ℕ) (e : ℕ) → Memᴰ e es → is_open shut forced e ≡ true
       → Memᴰ (entry_candidate n F s k near forced e) (entry_candidates n F s k near forced shut es)
   unfolding entry_candidates
-  entries_of es e (Memᴰ.head {x = x} {xs = xs} i) t = rw (← i, t) (Memᴰ.head refl)
-  entries_of es e (Memᴰ.tail {x = x} {xs = xs} m) t = go (is_open shut forced x) (entries_of xs e m t)
+  entries_of es e m t = within e es m t
     where
-      others : List Candidate
-      others = entry_candidates n F s k near forced shut xs
+      within : (e : ℕ) (es : List ℕ) → Memᴰ e es → is_open shut forced e ≡ true
+          → Memᴰ (entry_candidate n F s k near forced e) (entry_candidates n F s k near forced shut es)
+      within e es (Memᴰ.head {x = x} {xs = xs} i) t = rw (← i, t) (Memᴰ.head refl)
+      within e es (Memᴰ.tail {x = x} {xs = xs} m) t = go (is_open shut forced x) (within e xs m t)
+        where
+          others : List Candidate
+          others = entry_candidates n F s k near forced shut xs
 
-      go : (t : Bool) → Memᴰ (entry_candidate n F s k near forced e) others
-          → Memᴰ (entry_candidate n F s k near forced e) (cond t (entry_candidate n F s k near forced x ∷ others) others)
-      go true m = Memᴰ.tail m
-      go false m = m
+          go : (t : Bool) → Memᴰ (entry_candidate n F s k near forced e) others
+              → Memᴰ (entry_candidate n F s k near forced e) (cond t (entry_candidate n F s k near forced x ∷ others) others)
+          go true m = Memᴰ.tail m
+          go false m = m
 
   before : (a b : ℕ) → a < b → Before (entry_candidate n F s k near forced a) (entry_candidate n F s k near forced b)
   unfolding entry_candidate

@@ -34,8 +34,11 @@ pub record Clean (n : ℕ) (cost : ℕ → ℕ → ℕ) (w : ℕ) : Type 0 where
 -- a branch of no cost is a sum of no costs
 branch-zero : (n : ℕ) (cost : ℕ → ℕ → ℕ) (d : ℕ) (is : List ℕ) → branch n cost d is ≡ 0 → (i : ℕ) → Memᴰ i is → cost i (code_bit n d i) ≡ 0
 unfolding branch
-branch-zero n cost d is h i (Memᴰ.head {x = j} {xs = js} t) = rw t (omega arith)
-branch-zero n cost d is h i (Memᴰ.tail {x = j} {xs = js} m) = branch-zero n cost d js (omega arith) i m
+branch-zero n cost d is h i m = go i is m h
+  where
+    go : (i : ℕ) (is : List ℕ) → Memᴰ i is → branch n cost d is ≡ 0 → cost i (code_bit n d i) ≡ 0
+    go i is (Memᴰ.head {x = j} {xs = js} t) h = rw t (omega arith)
+    go i is (Memᴰ.tail {x = j} {xs = js} m) h = go i js m (omega arith)
 
 branch_none : (n : ℕ) (cost : ℕ → ℕ → ℕ) (d : ℕ) (is : List ℕ) → ((i : ℕ) → Memᴰ i is → cost i (code_bit n d i) ≡ 0) → branch n cost d is ≡ 0
 unfolding branch

@@ -20,15 +20,18 @@ use Rattle.laws.specs.Walk.Completions.{Node, node-add, node_down, fill_zero}
 -- equal patterns have equal codeword bits
 pub pattern-bits : (n d e : ℕ) (is : List ℕ) → pattern n d is ≡ pattern n e is → (i : ℕ) → Memᴰ i is → code_bit n d i ≡ code_bit n e i
 unfolding pattern code_bit
-pattern-bits n d e is h i (Memᴰ.head {x = j} {xs = js} t) = rw t (low (code_bit n d j) (code_bit n e j) (pattern n d js) (pattern n e js) h (omega arith) (omega arith))
+pattern-bits n d e is h i m = go i is m h
   where
     low : (a b x y : ℕ) → a + 2 * x ≡ b + 2 * y → a < 2 → b < 2 → a ≡ b
     low a b x y p q r = omega arith
-pattern-bits n d e is h i (Memᴰ.tail {x = j} {xs = js} m) =
-    pattern-bits n d e js (high (code_bit n d j) (code_bit n e j) (pattern n d js) (pattern n e js) h (omega arith) (omega arith)) i m
-  where
+
     high : (a b x y : ℕ) → a + 2 * x ≡ b + 2 * y → a < 2 → b < 2 → x ≡ y
     high a b x y p q r = omega arith
+
+    go : (i : ℕ) (is : List ℕ) → Memᴰ i is → pattern n d is ≡ pattern n e is → code_bit n d i ≡ code_bit n e i
+    go i is (Memᴰ.head {x = j} {xs = js} t) h = rw t (low (code_bit n d j) (code_bit n e j) (pattern n d js) (pattern n e js) h (omega arith) (omega arith))
+    go i is (Memᴰ.tail {x = j} {xs = js} m) h =
+        go i js m (high (code_bit n d j) (code_bit n e j) (pattern n d js) (pattern n e js) h (omega arith) (omega arith))
 
 -- words with equal codeword bits in the groups from k on have equal bits there
 pub bits_of_code : (n folding k d e : ℕ) → d < 2 ^ (2 ^ n) → e < 2 ^ (2 ^ n)
