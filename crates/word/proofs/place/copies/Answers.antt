@@ -4,16 +4,12 @@ use borrow.Author.Rules.{rules}
 use Rattle.rules.specs.Refusals.{largest}
 use Rattle.laws.specs.Code.Disjoint.{copies_fit}
 use Rattle.word.specs.Words.{word_of}
-use Rattle.word.proofs.place.copies.Statement.{statement}
-use Rattle.word.proofs.place.copies.Tie as tie
+use Rattle.word.proofs.place.copies.Goals as goal
 
-mul-result : tie.Need-overflow-mul-result
+pub overflow_mul-result : goal.overflow_mul-result
 unfolding word_of
-mul-result c = omega (arith, copies_fit largest c.args.w c.args.b c.requires)
+overflow_mul-result c = omega (arith, copies_fit largest c.args.w c.args.b c.requires)
 
-returns : tie.Need-returns
+pub returns : goal.returns
 unfolding word_of
 returns c = search rules
-
-pub copies-spec : {M : Type 1} → statement M
-copies-spec = tie.close (tie.spec mul-result returns)

@@ -1,0 +1,8 @@
+-- `word::none` meets its contract.
+use mathlib.Core.Path.{refl}
+use Rattle.word.specs.Words.{word_of}
+use Rattle.word.proofs.none.Goals as goal
+
+pub returns : goal.returns
+unfolding word_of
+returns c = refl

@@ -1,0 +1,8 @@
+-- `word::xor` meets its contract.
+use borrow.Author.Rules.{rules}
+use Rattle.word.specs.Words.{word_of}
+use Rattle.word.proofs.xor.Goals as goal
+
+pub returns : goal.returns
+unfolding word_of
+returns c = search rules
