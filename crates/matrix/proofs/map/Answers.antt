@@ -1,0 +1,9 @@
+-- `matrix::map` meets its contract.
+use mathlib.Core.Path.{ap, ◌∙◌}
+use borrow.Author.Rules.{rules}
+use Rattle.rules.specs.Word.{codeword}
+use Rattle.rules.specs.Refusals.{largest}
+use Rattle.matrix.proofs.map.Goals as goal
+
+pub returns : goal.returns
+returns c = c.of.ensures ∙ c.map64.ensures ∙ ap (codeword largest) c.low.ensures
