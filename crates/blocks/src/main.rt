@@ -1,6 +1,6 @@
 // The records on standard input, decoded.
 #![tactic(auto)]
 
-fn main() {
-    stream::run(b"blocks", pieces::Program::Blocks);
+fn main(rt: HostRuntime) {
+    stream::run(&rt, b"blocks", pieces::Program::Blocks);
 }

@@ -1,6 +1,6 @@
 // The same program as `blocks`, over recorded blocks at the borders.
 #![tactic(auto)]
 
-fn main() {
-    stream::run(b"border", pieces::Program::Blocks);
+fn main(rt: HostRuntime) {
+    stream::run(&rt, b"border", pieces::Program::Blocks);
 }

@@ -1,6 +1,6 @@
 // The requests on standard input, each written as a block record.
 #![tactic(auto)]
 
-fn main() {
-    stream::run(b"make", pieces::Program::Make);
+fn main(rt: HostRuntime) {
+    stream::run(&rt, b"make", pieces::Program::Make);
 }

@@ -28,5 +28,5 @@ next_piece program number got = cond (has_next (size_of program) number got) (Pi
 abbrev pub Onward : ℕ → Passed → Type 0
 Onward number (passed.Next next) = number < next
 Onward number passed.End = Unit {0}
-Onward number passed.NotRead = Unit {0}
-Onward number passed.NotWritten = Unit {0}
+Onward number (passed.NotRead failure) = Unit {0}
+Onward number (passed.NotWritten failure) = Unit {0}

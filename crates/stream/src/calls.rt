@@ -1,45 +1,83 @@
-// The calls of the C library: reading standard input, and what is said on standard error where a call fails.
+// The calls of the system: reading and writing, and what is said on standard error where one of them fails.
 ghost use Rattle.std.specs.Prelude.{◌≤◌, length};
 
-use libc::{STDERR_FILENO, STDIN_FILENO};
+use std::alloc::Global;
+use std::io;
+use std::io::{ErrorKind, Read, Write};
 
-// How many bytes were read, and whether reading stopped because it failed.
+// How many bytes were read, and the failure, if reading stopped because it failed.
 #[derive(Clone, Copy)]
 pub struct Got {
     pub len: usize,
-    pub failed: bool,
+    pub failure: Option<io::Error>,
 }
 
 // Reads until there are so many bytes, the input ends or a read fails.
-pub fn fill(bytes: &mut [u8], most: usize) -> Got
+pub fn fill(input: &mut impl Read, bytes: &mut [u8], most: usize) -> Got
     requires { most ≤ length bytes.old }
     ensures { result.len ≤ most }
 {
     let mut len = 0;
     while len < most {
-        let got = libc::read(STDIN_FILENO, &mut bytes[len..most]);
-        let more = io::count(got, &bytes[len..most]);
-        if more == 0 {
-            return Got {
-                len,
-                failed: got < 0,
-            };
+        match input.read(&mut bytes[len..most]) {
+            Ok(0) => {
+                return Got { len, failure: None };
+            }
+            Ok(more) => {
+                len += more;
+            }
+            Err(error) => {
+                return Got {
+                    len,
+                    failure: Some(error),
+                };
+            }
         }
-        len += more;
     }
-    Got { len, failed: false }
+    Got { len, failure: None }
+}
+
+// Writes until all of the bytes are written, or a write takes nothing or fails. A write that a signal has interrupted has failed.
+pub fn put(output: &mut impl Write, bytes: &[u8]) -> io::Result<()> {
+    let mut done = 0;
+    while done < bytes.len() {
+        let more = output.write(&bytes[done..])?;
+        if more == 0 {
+            return Err(io::Error::from(ErrorKind::WriteZero));
+        }
+        done += more;
+    }
+    Ok(())
+}
+
+// The system's reason: all of a failure's text but the error's number, which stands behind it.
+fn reason(text: &str) -> &str {
+    match text.split_once(" (os error ") {
+        Some((reason, _)) => reason,
+        None => text,
+    }
+}
+
+// Says in a line which program could not do what, and the system's reason.
+fn say(error: &mut impl Write, alloc: Global, name: &[u8], what: &str, failure: io::Error) -> io::Result<()> {
+    put(error, name)?;
+    match format!(in alloc; "{failure}") {
+        Ok(text) => {
+            let reason = reason(text.as_str());
+            writeln!(error, ": cannot {what}: {reason}")
+        }
+        Err(_) => writeln!(error, ": cannot {what}: {failure}"),
+    }
 }
 
 // Says on standard error, in a line, which program could not read, and the system's reason.
-pub fn not_read(name: &[u8]) {
-    io::write_all(STDERR_FILENO, name);
-    os::fail(b": cannot read standard input");
+pub fn not_read(error: &mut impl Write, alloc: Global, name: &[u8], failure: io::Error) {
+    let _ = say(error, alloc, name, "read standard input", failure);
 }
 
 // The same of a program that could not write, but not where the reader has gone away: who closes a pipe wants no more.
-pub fn not_written(name: &[u8]) {
-    if os::errno() != libc::EPIPE {
-        io::write_all(STDERR_FILENO, name);
-        os::fail(b": cannot write standard output");
+pub fn not_written(error: &mut impl Write, alloc: Global, name: &[u8], failure: io::Error) {
+    if failure.kind() != ErrorKind::BrokenPipe {
+        let _ = say(error, alloc, name, "write standard output", failure);
     }
 }
