@@ -2,6 +2,7 @@
 ghost use Rattle.std.specs.Prelude.{◌≡◌, ◌*◌, ◌≤◌, ◌<◌};
 
 use crate::{compare, levels};
+use std::io::Write;
 
 // How many cases were compared, and how many of them differ.
 #[derive(Clone, Copy)]
@@ -21,21 +22,21 @@ fn mask(n: u32, number: u64) -> u64
 }
 
 // How many cases were compared and how many differ, and the end of the line.
-pub(crate) fn say_tally(tally: Tally) {
-    printing::number(b" compared=", tally.compared);
-    printing::number(b" different=", tally.different);
-    printing::end();
+pub(crate) fn say_tally(to: &mut impl Write, tally: Tally) {
+    printing::number(to, b" compared=", tally.compared);
+    printing::number(to, b" different=", tally.different);
+    printing::end(to);
 }
 
 // Every mask and block under one folding, all of them compared.
-fn folded(n: u32, folding: u32, masks: u64) -> Tally
+fn folded(to: &mut impl Write, n: u32, folding: u32, masks: u64) -> Tally
     requires { masks ≤ 256 }
     ensures { (result.compared ≡ masks * 8) × (result.different ≤ 2048) }
 {
     let mut compared: u64 = 0;
     let mut different: u64 = 0;
     for case in 0..masks * BLOCKS {
-        different += compare::differences(n, folding, mask(n, case / BLOCKS), case);
+        different += compare::differences(to, n, folding, mask(n, case / BLOCKS), case);
         compared += 1;
     }
     Tally {
@@ -45,7 +46,7 @@ fn folded(n: u32, folding: u32, masks: u64) -> Tally
 }
 
 // The same with its line, for a folding of three ones at most; no folding has more.
-fn permitted(n: u32, folding: u32, masks: u64) -> Tally
+fn permitted(to: &mut impl Write, n: u32, folding: u32, masks: u64) -> Tally
     requires { masks ≤ 256 }
     ensures { (result.compared ≤ 2048) × (result.different ≤ 2048) }
 {
@@ -55,21 +56,21 @@ fn permitted(n: u32, folding: u32, masks: u64) -> Tally
             different: 0,
         };
     }
-    let tally = folded(n, folding, masks);
-    compare::say_folding(n, folding);
-    say_tally(tally);
+    let tally = folded(to, n, folding, masks);
+    compare::say_folding(to, n, folding);
+    say_tally(to, tally);
     tally
 }
 
 // Every folding of a size, 0 to 2^n - 1.
-pub(crate) fn size(n: u32, foldings: u32, masks: u64) -> Tally
+pub(crate) fn size(to: &mut impl Write, n: u32, foldings: u32, masks: u64) -> Tally
     requires { (foldings ≤ 16) × (masks ≤ 256) }
     ensures { (result.compared ≤ 32768) × (result.different ≤ 32768) }
 {
     let mut compared: u64 = 0;
     let mut different: u64 = 0;
     for folding in 0..foldings {
-        let tally = permitted(n, folding, masks);
+        let tally = permitted(to, n, folding, masks);
         compared += tally.compared;
         different += tally.different;
     }

@@ -3,6 +3,7 @@ ghost use Rattle.std.specs.Prelude.{◌<◌, ◌≤◌, length};
 
 use crate::least::Least;
 use crate::{least, levels, rule};
+use std::io::Write;
 use tree::{Answer, Decoded};
 
 // Greater than the number of visits of every walk here.
@@ -41,22 +42,22 @@ pub(crate) fn slots(n: u32) -> usize
 }
 
 // A size and a folding.
-pub(crate) fn say_folding(n: u32, folding: u32) {
-    printing::number(b"n=", n as u64);
-    printing::number(b" folding=", folding as u64);
+pub(crate) fn say_folding(to: &mut impl Write, n: u32, folding: u32) {
+    printing::number(to, b"n=", n as u64);
+    printing::number(to, b" folding=", folding as u64);
 }
 
 // The line of a case that differs.
-fn say_case(n: u32, folding: u32, frozen: u64, block: u64) {
-    printing::say(b"differs: ");
-    say_folding(n, folding);
-    printing::hex(b" mask=0x", frozen);
-    printing::number(b" block=", block);
-    printing::end();
+fn say_case(to: &mut impl Write, n: u32, folding: u32, frozen: u64, block: u64) {
+    printing::say(to, b"differs: ");
+    say_folding(to, n, folding);
+    printing::hex(to, b" mask=0x", frozen);
+    printing::number(to, b" block=", block);
+    printing::end(to);
 }
 
 // 0 where decode agrees with the listing on a block; elsewhere 1, and the case's line.
-pub(crate) fn differences(n: u32, folding: u32, frozen: u64, block: u64) -> u64
+pub(crate) fn differences(to: &mut impl Write, n: u32, folding: u32, frozen: u64, block: u64) -> u64
     requires { block < 65536 }
     ensures { result ≤ 1 }
 {
@@ -65,6 +66,6 @@ pub(crate) fn differences(n: u32, folding: u32, frozen: u64, block: u64) -> u64
     if agrees(n, &levels[..slots], frozen, folding) {
         return 0;
     }
-    say_case(n, folding, frozen, block);
+    say_case(to, n, folding, frozen, block);
     1
 }

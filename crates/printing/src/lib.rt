@@ -1,64 +1,62 @@
-// The parts of a line, written to standard output: text, numbers, levels and refusals.
+// The parts of a line, as they are printed: text, numbers, levels and refusals. A failed write is passed over, as it is by the two
+// programs that print: who reads them compares what they printed.
 #![tactic(auto)]
 
-use libc::STDOUT_FILENO;
 use refusal::Refusal;
+use std::io::Write;
 
 // Text as it is.
-pub fn say(text: &[u8]) {
-    io::write_all(STDOUT_FILENO, text);
+pub fn say(to: &mut impl Write, text: &[u8]) {
+    let _ = to.write_all(text);
 }
 
 // A name, and a number in decimal.
-pub fn number(name: &[u8], value: u64) {
-    say(name);
-    io::print_decimal(STDOUT_FILENO, value);
+pub fn number(to: &mut impl Write, name: &[u8], value: u64) {
+    say(to, name);
+    let _ = write!(to, "{value}");
 }
 
 // A name, and a number in lower-case hexadecimal digits, without leading zeros.
-pub fn hex(name: &[u8], value: u64) {
-    say(name);
-    io::print_hex(STDOUT_FILENO, value, 1);
+pub fn hex(to: &mut impl Write, name: &[u8], value: u64) {
+    say(to, name);
+    let _ = write!(to, "{value:x}");
 }
 
 // A level in decimal.
-pub fn level(z: i32) {
-    if z < 0 {
-        say(b"-");
-    }
-    io::print_decimal(STDOUT_FILENO, level::magnitude(z) as u64);
+pub fn level(to: &mut impl Write, z: i32) {
+    let _ = write!(to, "{z}");
 }
 
 // A level of a list, the first without a comma.
-fn item(i: usize, z: i32) {
+fn item(to: &mut impl Write, i: usize, z: i32) {
     if 0 < i {
-        say(b",");
+        say(to, b",");
     }
-    level(z);
+    level(to, z);
 }
 
 // A list of levels.
-pub fn levels(levels: &[i32]) {
-    say(b" levels=");
+pub fn levels(to: &mut impl Write, levels: &[i32]) {
+    say(to, b" levels=");
     let mut i = 0;
     while i < levels.len() {
-        item(i, levels[i]);
+        item(to, i, levels[i]);
         i += 1;
     }
 }
 
 // A refusal by its number, and the slot, level or sample that it names.
-pub fn refused(r: Refusal) {
-    number(b" -> refused ", refusal::number(r) as u64);
+pub fn refused(to: &mut impl Write, r: Refusal) {
+    number(to, b" -> refused ", refusal::number(r) as u64);
     match r {
-        Refusal::Range(slot) => number(b" slot ", slot as u64),
-        Refusal::NoCandidate(level) => number(b" level ", level as u64),
-        Refusal::NotFinite(sample) => number(b" sample ", sample as u64),
+        Refusal::Range(slot) => number(to, b" slot ", slot as u64),
+        Refusal::NoCandidate(level) => number(to, b" level ", level as u64),
+        Refusal::NotFinite(sample) => number(to, b" sample ", sample as u64),
         _ => {}
     }
 }
 
 // The end of the line.
-pub fn end() {
-    say(b"\n");
+pub fn end(to: &mut impl Write) {
+    say(to, b"\n");
 }

@@ -59,7 +59,13 @@ fn reason(text: &str) -> &str {
 }
 
 // Says in a line which program could not do what, and the system's reason.
-fn say(error: &mut impl Write, alloc: Global, name: &[u8], what: &str, failure: io::Error) -> io::Result<()> {
+fn say(
+    error: &mut impl Write,
+    alloc: Global,
+    name: &[u8],
+    what: &str,
+    failure: io::Error,
+) -> io::Result<()> {
     put(error, name)?;
     match format!(in alloc; "{failure}") {
         Ok(text) => {

@@ -73,7 +73,14 @@ pub fn run(rt: &HostRuntime, name: &[u8], program: Program) {
     let mut said = [0u8; piece::SAID];
     let mut number = 0;
     loop {
-        match pass(program, number, &mut streams, &mut bytes, &mut out, &mut said) {
+        match pass(
+            program,
+            number,
+            &mut streams,
+            &mut bytes,
+            &mut out,
+            &mut said,
+        ) {
             Passed::Next(next) => {
                 number = next;
             }

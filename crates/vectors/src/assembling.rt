@@ -2,6 +2,7 @@
 use crate::line;
 use crate::samples::sample;
 use light::{Assembler, Handed, Pair, Reading, Verdict};
+use std::io::Write;
 
 // Slots of the largest block.
 const ROOM: usize = word::SLOTS;
@@ -22,32 +23,32 @@ fn given(line: &[u8]) -> Assembler {
     }
 }
 
-fn verdict(verdict: Verdict) {
+fn verdict(to: &mut impl Write, verdict: Verdict) {
     match verdict {
-        Verdict::Done => printing::say(b" -> done"),
-        Verdict::Refused(r) => printing::refused(r),
+        Verdict::Done => printing::say(to, b" -> done"),
+        Verdict::Refused(r) => printing::refused(to, r),
     }
 }
 
 // The n and the number of slots filled.
-fn state(n: u32, filled: usize) {
-    printing::number(b" n=", n as u64);
-    printing::number(b" filled=", filled as u64);
+fn state(to: &mut impl Write, n: u32, filled: usize) {
+    printing::number(to, b" n=", n as u64);
+    printing::number(to, b" filled=", filled as u64);
 }
 
 // The verdict, and the assembler handed back with the levels of its slots.
-fn handed(handed: Handed) {
+fn handed(to: &mut impl Write, handed: Handed) {
     let v = handed.verdict;
-    verdict(v);
+    verdict(to, v);
     let a = handed.assembler;
-    state(a.n, a.filled);
+    state(to, a.n, a.filled);
     let levels = a.levels;
     let slots = word::slots(a.n);
-    printing::levels(&levels[..slots]);
+    printing::levels(to, &levels[..slots]);
 }
 
-pub(crate) fn new(line: &[u8]) {
-    handed(Assembler::new(line::small(line, 0)));
+pub(crate) fn new(to: &mut impl Write, line: &[u8]) {
+    handed(to, Assembler::new(line::small(line, 0)));
 }
 
 // The reading of a line: a pair of samples, one sample, or none.
@@ -64,20 +65,20 @@ fn reading(line: &[u8]) -> Reading {
     Reading::Erased
 }
 
-pub(crate) fn take(line: &[u8]) {
-    handed(given(line).take(reading(line)));
+pub(crate) fn take(to: &mut impl Write, line: &[u8]) {
+    handed(to, given(line).take(reading(line)));
 }
 
-fn give_in(line: &[u8], slice: &mut [i32]) {
-    verdict(given(line).give(slice));
-    printing::levels(slice);
+fn give_in(to: &mut impl Write, line: &[u8], slice: &mut [i32]) {
+    verdict(to, given(line).give(slice));
+    printing::levels(to, slice);
 }
 
 // A slice of that many slots, up to 65, each at 7 before the call.
-pub(crate) fn give(line: &[u8]) {
+pub(crate) fn give(to: &mut impl Write, line: &[u8]) {
     let mut slice = [7i32; 65];
     let slots = line::number(line, 2) as usize;
     if slots <= 65 {
-        give_in(line, &mut slice[..slots]);
+        give_in(to, line, &mut slice[..slots]);
     }
 }

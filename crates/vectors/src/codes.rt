@@ -1,6 +1,7 @@
 // A code by its n and its mask: the constructor and the guard.
 use crate::{line, words};
 use code::{Code, Guard, Made};
+use std::io::Write;
 
 // The code of a line, whose first two numbers are its n and its mask.
 pub(crate) fn given(line: &[u8]) -> Code {
@@ -10,20 +11,20 @@ pub(crate) fn given(line: &[u8]) -> Code {
     }
 }
 
-pub(crate) fn new(line: &[u8]) {
+pub(crate) fn new(to: &mut impl Write, line: &[u8]) {
     match Code::new(line::small(line, 0), word::of(line::number(line, 1))) {
         Made::Code(c) => {
-            printing::number(b" -> code n=", c.n as u64);
-            printing::hex(b" mask=0x", word::low(c.frozen));
+            printing::number(to, b" -> code n=", c.n as u64);
+            printing::hex(to, b" mask=0x", word::low(c.frozen));
         }
-        Made::Refused(r) => printing::refused(r),
+        Made::Refused(r) => printing::refused(to, r),
     }
 }
 
-pub(crate) fn guard(line: &[u8]) {
+pub(crate) fn guard(to: &mut impl Write, line: &[u8]) {
     match given(line).guard() {
-        Guard::Guard(figure) => words::counted(figure as u64),
-        Guard::NoGuard => words::none(),
-        Guard::Refused(r) => printing::refused(r),
+        Guard::Guard(figure) => words::counted(to, figure as u64),
+        Guard::NoGuard => words::none(to),
+        Guard::Refused(r) => printing::refused(to, r),
     }
 }

@@ -18,38 +18,41 @@ mod requests;
 mod samples;
 mod words;
 
+use std::io;
+use std::io::{LineWriter, Read, Write};
+
 // What came of a call, by its number in the list of names.
-fn answer(line: &[u8], name: usize) {
+fn answer(to: &mut impl Write, line: &[u8], name: usize) {
     match name {
-        0 => codes::new(line),
-        1 => codes::guard(line),
-        2 => encoding::encode(line),
-        3 => encoding::encode_levels(line),
-        4 => decoding::decode(line),
-        5 => samples::level(line),
-        6 => assembling::new(line),
-        7 => assembling::take(line),
-        8 => assembling::give(line),
-        9 => records::record(line, false),
-        10 => records::record(line, true),
-        11 => piece::lines(line),
-        12 => requests::read(line),
-        13 => requests::write(line),
-        14 => piece::made(line),
-        _ => words::answer(line),
+        0 => codes::new(to, line),
+        1 => codes::guard(to, line),
+        2 => encoding::encode(to, line),
+        3 => encoding::encode_levels(to, line),
+        4 => decoding::decode(to, line),
+        5 => samples::level(to, line),
+        6 => assembling::new(to, line),
+        7 => assembling::take(to, line),
+        8 => assembling::give(to, line),
+        9 => records::record(to, line, false),
+        10 => records::record(to, line, true),
+        11 => piece::lines(to, line),
+        12 => requests::read(to, line),
+        13 => requests::write(to, line),
+        14 => piece::made(to, line),
+        _ => words::answer(to, line),
     }
 }
 
 // A call, or a line that says what calls are there for.
-fn case(line: &[u8]) {
+fn case(to: &mut impl Write, line: &[u8]) {
     if line::at(line, 0) != b'#' {
-        printing::say(line);
+        printing::say(to, line);
         let name = line::name(
             line,
             b"new guard encode encode_levels decode level new_assembler take give read record lines request write made ",
         );
-        answer(line, name);
-        printing::end();
+        answer(to, line, name);
+        printing::end(to);
     }
 }
 
@@ -70,17 +73,37 @@ fn end(text: &[u8], start: usize) -> usize
 }
 
 // Each line in turn.
-fn cases(text: &[u8]) {
+fn cases(to: &mut impl Write, text: &[u8]) {
     let mut start = 0;
     while start < text.len() {
         let end = end(text, start);
-        case(&text[start..end]);
+        case(to, &text[start..end]);
         start = end + 1;
     }
 }
 
-fn main() {
-    let mut text = io::large_buffer();
-    let len = io::read_full(libc::STDIN_FILENO, &mut text);
-    cases(&text[..len]);
+// Reads until the buffer is full, the input ends or a read fails, and returns how many bytes came.
+fn read(input: &mut impl Read, text: &mut [u8]) -> usize
+    ensures { result ≤ length text.new }
+{
+    let mut len = 0;
+    while len < text.len() {
+        match input.read(&mut text[len..]) {
+            Ok(0) | Err(_) => {
+                return len;
+            }
+            Ok(more) => {
+                len += more;
+            }
+        }
+    }
+    len
+}
+
+fn main(rt: HostRuntime) -> io::Result<()> {
+    let mut text = [0u8; 65536];
+    let len = read(&mut rt.stdin(), &mut text);
+    let mut to = LineWriter::new(rt.alloc(), rt.stdout())?;
+    cases(&mut to, &text[..len]);
+    Ok(())
 }

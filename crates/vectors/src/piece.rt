@@ -3,45 +3,53 @@ ghost use Rattle.std.specs.Prelude.{◌≤◌, length};
 
 use crate::{buffers, given, line};
 use pieces::{Program, Written};
+use std::io::Write;
 
 // How many bytes were put in front of a buffer, and how many of those behind them are as they were.
-fn filled(name: &[u8], buffer: &[u8], len: usize) {
-    printing::number(name, len as u64);
-    printing::number(b" left=", buffers::left(buffer, len));
+fn filled(to: &mut impl Write, name: &[u8], buffer: &[u8], len: usize) {
+    printing::number(to, name, len as u64);
+    printing::number(to, b" left=", buffers::left(buffer, len));
 }
 
 // Both buffers after the call, with their first bytes. A second one without bytes is passed over.
-fn wrote(program: Program, out: &[u8], said: &[u8], shown: usize, told: usize)
+fn wrote(to: &mut impl Write, program: Program, out: &[u8], said: &[u8], shown: usize, told: usize)
     requires { (shown ≤ length out.now) × (told ≤ length said.now) }
 {
-    filled(b" -> length=", out, shown);
+    filled(to, b" -> length=", out, shown);
     if 0 < said.len() {
-        filled(b" said length=", said, told);
+        filled(to, b" said length=", said, told);
     }
     match program {
-        Program::Blocks => buffers::text(&out[..shown]),
-        Program::Make => buffers::records(&out[..shown]),
+        Program::Blocks => buffers::text(to, &out[..shown]),
+        Program::Make => buffers::records(to, &out[..shown]),
     }
-    buffers::text(&said[..told]);
+    buffers::text(to, &said[..told]);
 }
 
 // Both buffers after a call that found no room in one of them.
-fn no_room(out: &[u8], said: &[u8]) {
-    printing::number(b" -> no room left=", buffers::left(out, 0));
+fn no_room(to: &mut impl Write, out: &[u8], said: &[u8]) {
+    printing::number(to, b" -> no room left=", buffers::left(out, 0));
     if 0 < said.len() {
-        printing::number(b" said left=", buffers::left(said, 0));
+        printing::number(to, b" said left=", buffers::left(said, 0));
     }
 }
 
-fn write(program: Program, bytes: &[u8], number: u32, out: &mut [u8], said: &mut [u8]) {
+fn write(
+    to: &mut impl Write,
+    program: Program,
+    bytes: &[u8],
+    number: u32,
+    out: &mut [u8],
+    said: &mut [u8],
+) {
     match pieces::write(program, bytes, number, out, said) {
-        Written::Bytes(shown, told) => wrote(program, out, said, shown, told),
-        Written::NoRoom => no_room(out, said),
+        Written::Bytes(shown, told) => wrote(to, program, out, said, shown, told),
+        Written::NoRoom => no_room(to, out, said),
     }
 }
 
 // The first bytes of what is given, and two buffers of that room: numbers 2 and 3 of the line, and none where it has no number 3.
-fn piece(program: Program, given: &[u8], line: &[u8]) {
+fn piece(to: &mut impl Write, program: Program, given: &[u8], line: &[u8]) {
     let mut out = [7u8; 900];
     let mut said = [7u8; 24];
     let bytes = line::number(line, 1) as usize;
@@ -51,6 +59,7 @@ fn piece(program: Program, given: &[u8], line: &[u8]) {
         if room <= 900 {
             if said_room <= 24 {
                 write(
+                    to,
                     program,
                     &given[..bytes],
                     line::small(line, 0),
@@ -62,12 +71,12 @@ fn piece(program: Program, given: &[u8], line: &[u8]) {
     }
 }
 
-pub(crate) fn lines(line: &[u8]) {
+pub(crate) fn lines(to: &mut impl Write, line: &[u8]) {
     let given = given::three();
-    piece(Program::Blocks, &given, line);
+    piece(to, Program::Blocks, &given, line);
 }
 
-pub(crate) fn made(line: &[u8]) {
+pub(crate) fn made(to: &mut impl Write, line: &[u8]) {
     let given = given::five();
-    piece(Program::Make, &given, line);
+    piece(to, Program::Make, &given, line);
 }

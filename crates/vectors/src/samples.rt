@@ -4,6 +4,7 @@ ghost use Rattle.std.specs.Float.{binary32};
 
 use crate::line;
 use sample::Quantised;
+use std::io::Write;
 
 // The float of a bit pattern. A NaN's pattern is the one NaN.
 pub(crate) fn sample(bits: u32) -> f32
@@ -15,10 +16,10 @@ pub(crate) fn sample(bits: u32) -> f32
     f32::from_bits(bits)
 }
 
-pub(crate) fn level(line: &[u8]) {
-    printing::say(b" -> ");
+pub(crate) fn level(to: &mut impl Write, line: &[u8]) {
+    printing::say(to, b" -> ");
     match sample::level(sample(line::small(line, 0))) {
-        Quantised::Level(z) => printing::level(z),
-        Quantised::NotFinite => printing::say(b"not finite"),
+        Quantised::Level(z) => printing::level(to, z),
+        Quantised::NotFinite => printing::say(to, b"not finite"),
     }
 }

@@ -6,33 +6,34 @@ ghost use Rattle.laws.specs.Code.Disjoint.{Disjoint};
 ghost use Rattle.word.specs.Words.{word_of};
 
 use crate::line;
+use std::io::Write;
 use word::Word;
 use word::count::Fewest;
 
-fn came(w: Word) {
-    printing::hex(b" -> 0x", word::low(w));
+fn came(to: &mut impl Write, w: Word) {
+    printing::hex(to, b" -> 0x", word::low(w));
 }
 
-pub(crate) fn counted(count: u64) {
-    printing::number(b" -> ", count);
+pub(crate) fn counted(to: &mut impl Write, count: u64) {
+    printing::number(to, b" -> ", count);
 }
 
-pub(crate) fn none() {
-    printing::say(b" -> none");
+pub(crate) fn none(to: &mut impl Write) {
+    printing::say(to, b" -> none");
 }
 
-fn said(yes: bool) {
+fn said(to: &mut impl Write, yes: bool) {
     if yes {
-        printing::say(b" -> yes");
+        printing::say(to, b" -> yes");
     } else {
-        printing::say(b" -> no");
+        printing::say(to, b" -> no");
     }
 }
 
-fn fewest_ones(n: u32, frozen: Word) {
+fn fewest_ones(to: &mut impl Write, n: u32, frozen: Word) {
     match word::count::fewest_ones(n, frozen) {
-        Fewest::Ones(w) => counted(w as u64),
-        Fewest::NoIndex => none(),
+        Fewest::Ones(w) => counted(to, w as u64),
+        Fewest::NoIndex => none(to),
     }
 }
 
@@ -62,43 +63,44 @@ fn apart(w: u64, b: u64, own: usize) -> bool
 }
 
 // The one call that asks something of its caller: the ones of both words must lie in disjoint index bits.
-fn copies(w: u64, b: u64, own: usize) {
+fn copies(to: &mut impl Write, w: u64, b: u64, own: usize) {
     if apart(w, b, own) {
-        came(word::place::copies(word::of(w), word::of(b)));
+        came(to, word::place::copies(word::of(w), word::of(b)));
     } else {
-        none();
+        none(to);
     }
 }
 
 // A call by its number in the list of names, with the numbers of its line as words; the first of them as an n too, and the second
 // as an index.
-fn called(name: usize, n: u32, i: usize, a: Word, b: Word, c: Word) {
+fn called(to: &mut impl Write, name: usize, n: u32, i: usize, a: Word, b: Word, c: Word) {
     match name {
-        0 => counted(word::bit(a, i) as u64),
-        1 => said(word::count::reaches(a, i)),
-        2 => came(word::xor(a, b)),
-        3 => came(word::common(a, b)),
-        4 => said(word::less(a, b)),
-        5 => came(matrix::map(a)),
-        6 => came(message::spread(n, b, c)),
-        7 => came(message::gather(n, b, c)),
-        8 => counted(word::count::ones(a) as u64),
-        9 => counted(word::count::folding_size(n) as u64),
-        10 => counted(word::count::unfrozen(n, b) as u64),
-        11 => fewest_ones(n, b),
-        12 => counted(word::slots(n) as u64),
-        13 => said(word::wrong_size(n)),
-        14 => came(word::place::above(a, i)),
-        _ => copies(word::low(a), word::low(b), word::low(c) as usize),
+        0 => counted(to, word::bit(a, i) as u64),
+        1 => said(to, word::count::reaches(a, i)),
+        2 => came(to, word::xor(a, b)),
+        3 => came(to, word::common(a, b)),
+        4 => said(to, word::less(a, b)),
+        5 => came(to, matrix::map(a)),
+        6 => came(to, message::spread(n, b, c)),
+        7 => came(to, message::gather(n, b, c)),
+        8 => counted(to, word::count::ones(a) as u64),
+        9 => counted(to, word::count::folding_size(n) as u64),
+        10 => counted(to, word::count::unfrozen(n, b) as u64),
+        11 => fewest_ones(to, n, b),
+        12 => counted(to, word::slots(n) as u64),
+        13 => said(to, word::wrong_size(n)),
+        14 => came(to, word::place::above(a, i)),
+        _ => copies(to, word::low(a), word::low(b), word::low(c) as usize),
     }
 }
 
-pub(crate) fn answer(line: &[u8]) {
+pub(crate) fn answer(to: &mut impl Write, line: &[u8]) {
     let name = line::name(
         line,
         b"bit reaches xor common less map spread gather ones folding_size unfrozen fewest_ones slots wrong_size above copies ",
     );
     called(
+        to,
         name,
         line::small(line, 0),
         line::number(line, 1) as usize,
