@@ -22,8 +22,8 @@ fn fill(x: Word, levels: &mut [i32])
 
 // The words of a message, and the ideal levels of its codeword in a slice of N; refusals 1, 2, 3, 9 leave the slice as it was.
 pub fn encode_levels(code: Code, message: Word, levels: &mut [i32]) -> Encoded
-    ensures result_value { encoded_of result ≡ encode_levels_answer code.n levels.old (word_of code.frozen) (word_of message) }
-    ensures levels_after { levels.new ≡ encode_levels_left code.n levels.old (word_of code.frozen) (word_of message) }
+    ensures answer { encoded_of result ≡ encode_levels_answer code.n levels.old (word_of code.frozen) (word_of message) }
+    ensures left { levels.new ≡ encode_levels_left code.n levels.old (word_of code.frozen) (word_of message) }
 {
     let n = code.n;
     if word::wrong_size(n) {

@@ -46,8 +46,8 @@ fn slot_entries(zero: &Seats, one: &Seats, first: usize, t: usize) -> Ordered
 
 // The row of one slot.
 fn one_slot(table: &mut Table, start: usize, zero: &Seats, one: &Seats, first: usize)
-    requires shaped { Shaped table.old × Room start 2 }
-    requires first_bound { (first + 1 ≤ 2 ^ largest) × Small zero.now × Small one.now }
+    requires room { Shaped table.old × Room start 2 }
+    requires seats { (first + 1 ≤ 2 ^ largest) × Small zero.now × Small one.now }
     ensures { Placed table.old start (row_of (adds zero.now one.now first) 1) table.new }
 {
     let own = slot_entries(zero, one, first, 0);
@@ -57,8 +57,8 @@ fn one_slot(table: &mut Table, start: usize, zero: &Seats, one: &Seats, first: u
 
 // The row of two slots: the sums of their entries. Only the two in the middle are not in order by themselves.
 fn two_slots(table: &mut Table, start: usize, zero: &Seats, one: &Seats, first: usize)
-    requires shaped { Shaped table.old × Room start 4 }
-    requires first_bound { (first + 2 ≤ 2 ^ largest) × Small zero.now × Small one.now }
+    requires room { Shaped table.old × Room start 4 }
+    requires seats { (first + 2 ≤ 2 ^ largest) × Small zero.now × Small one.now }
     ensures { Placed table.old start (row_of (adds zero.now one.now first) 2) table.new }
 {
     let own = slot_entries(zero, one, first, 0);
@@ -72,8 +72,8 @@ fn two_slots(table: &mut Table, start: usize, zero: &Seats, one: &Seats, first: 
 
 // The row of a group's first slots: of its one, or else of two.
 fn first_row(table: &mut Table, start: usize, zero: &Seats, one: &Seats, first: usize, size: usize)
-    requires shaped { Shaped table.old × Room start (2 ^ min size 2) }
-    requires le_size { (1 ≤ size) × (first + size ≤ 2 ^ largest) × Small zero.now × Small one.now }
+    requires room { Shaped table.old × Room start (2 ^ min size 2) }
+    requires seats { (1 ≤ size) × (first + size ≤ 2 ^ largest) × Small zero.now × Small one.now }
     ensures { Placed table.old start (row_of (adds zero.now one.now first) (min size 2)) table.new }
 {
     if size == 1 {

@@ -27,8 +27,8 @@ fn turn(
     zero: u32,
     one: u32,
 ) -> usize
-    requires a_le_t { (a ≤ t) × Room start (t + 1) }
-    requires zero_bound { (cell from.now (start + a) + zero < 2 ^ 32) × (cell from.now (start + (t - a)) + one < 2 ^ 32) }
+    requires place { (a ≤ t) × Room start (t + 1) }
+    requires sums_fit { (cell from.now (start + a) + zero < 2 ^ 32) × (cell from.now (start + (t - a)) + one < 2 ^ 32) }
     ensures { Turned from.now start t a zero one to.old to.new result }
 {
     let x = entry(from, start, a) + zero;
@@ -67,8 +67,8 @@ fn merge_lanes(
 // The upper half of a lane. A row is its own mirror image: an entry and the one as far from the other end add up to one sum,
 // since their patterns are each other's opposite. So the upper half is what is left of the lower half to that sum.
 fn mirror(to: &mut Table, start: usize, m: usize, both: u32)
-    requires shaped { Shaped to.old × Room start (m + m) }
-    requires by_index { (i : ℕ) → i < m → cell to.old (start + i) ≤ both }
+    requires room { Shaped to.old × Room start (m + m) }
+    requires within_both { (i : ℕ) → i < m → cell to.old (start + i) ≤ both }
     ensures { Completed to.old start m both to.new m }
 {
     let mut t = 0;

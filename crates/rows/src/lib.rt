@@ -36,8 +36,8 @@ fn add_slots(
     zeros: &Seats,
     ones: &Seats,
 )
-    requires t_lt_size { (t < size) × Sized (group + 4) size × Small zeros.now × Small ones.now }
-    requires shaped { Shaped to.old × Built zeros.now ones.now size t group (group + 4) from.now }
+    requires slots { (t < size) × Sized (group + 4) size × Small zeros.now × Small ones.now }
+    requires tables { Shaped to.old × Built zeros.now ones.now size t group (group + 4) from.now }
     ensures { Filled zeros.now ones.now size (suc t) group (group + 4) to.old to.new }
 {
     let mut zero = [0u32; 4];
@@ -62,8 +62,8 @@ fn four_rows(
     zero: &Seats,
     one: &Seats,
 )
-    requires lt_size { (2 < size) × Sized (group + 4) size × Small zero.now × Small one.now }
-    requires shaped { Shaped table.old × Shaped spare.old }
+    requires slots { (2 < size) × Sized (group + 4) size × Small zero.now × Small one.now }
+    requires tables { Shaped table.old × Shaped spare.old }
     ensures spare { Shaped spare.new }
     ensures rows { Filled zero.now one.now size size group (group + 4) table.old table.new }
 {

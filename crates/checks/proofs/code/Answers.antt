@@ -3,7 +3,6 @@ use mathlib.Core.Path.{sym, ◌∙◌}
 use Rattle.rules.specs.Orders.{code_order}
 use Rattle.word.specs.Sizes.{mask_test}
 use Rattle.checks.specs.Verdicts.{code_verdict}
-use borrow.Author.Rules.{rules}
 use Rattle.checks.proofs.code.Goals as goal
 
 pub returns-then-wrong_size : goal.returns-then-wrong_size

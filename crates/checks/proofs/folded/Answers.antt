@@ -2,7 +2,6 @@
 use Prim.Native.Nat.{ℕ, ◌*◌, ◌%◌, ◌^◌, ◌≤◌}
 use mathlib.Core.Path.{◌≡◌, sym, ◌∙◌}
 use native.Mathlib.Omega.{arith}
-use borrow.Author.Rules.{rules}
 use borrow.Author.Tests.{lt-ltb, le-ltb, le-leb, lt-leb}
 use Rattle.rules.specs.Refusals.{answer, largest}
 use Rattle.rules.specs.Orders.{code_order, folding_order, folded_order}
@@ -12,30 +11,31 @@ use Rattle.word.specs.Words.{word_of}
 use Rattle.checks.specs.Verdicts.{folded_verdict}
 use Rattle.checks.specs.Passing.{code_passed, code_refused_first}
 use Rattle.checks.proofs.folded.Goals as goal
+use Rattle.checks.proofs.folded.Goals.{In_default}
 
 -- the arguments, where the code is right
-abbrev size_at : goal.In_default → ℕ
+abbrev size_at : In_default → ℕ
 size_at c = c.args.n
 
-abbrev mask_at : goal.In_default → ℕ
+abbrev mask_at : In_default → ℕ
 mask_at c = word_of c.args.frozen
 
-abbrev folding_at : goal.In_default → ℕ
+abbrev folding_at : In_default → ℕ
 folding_at c = c.args.folding
 
-code_is : (c : goal.In_default) → Passed (code_order (size_at c) (mask_at c))
+code_is : (c : In_default) → Passed (code_order (size_at c) (mask_at c))
 code_is c = code_passed _ _ c.code-verdict.ensures c.in_default.is
 
 -- what is left to answer there
-after-code : (c : goal.In_default) → folded_verdict (size_at c) (mask_at c) (folding_at c) ≡ answer (folding_order (size_at c) (folding_at c)) tt
+after-code : (c : In_default) → folded_verdict (size_at c) (mask_at c) (folding_at c) ≡ answer (folding_order (size_at c) (folding_at c)) tt
 unfolding folded_verdict folded_order
 after-code c = answer_after (code_order (size_at c) (mask_at c)) (folding_order (size_at c) (folding_at c)) tt (code_is c)
 
 -- the bound of the folding, as the machine shifts it
-small : (c : goal.In_default) → size_at c ≤ largest
+small : (c : In_default) → size_at c ≤ largest
 small c = ((code_right (size_at c) (mask_at c)).0 (code_is c)).small
 
-bound : (c : goal.In_default) → 1 * 2 ^ size_at c % 2 ^ 32 ≡ 2 ^ size_at c
+bound : (c : In_default) → 1 * 2 ^ size_at c % 2 ^ 32 ≡ 2 ^ size_at c
 bound c = power_shifted 32 (size_at c) (omega (arith, small c))
 
 pub returns-in-Refused : goal.returns-in-Refused

@@ -1,6 +1,7 @@
 -- `level::distance` meets its contract. Invariant: the slots below i are in range, and the sum is that of their costs.
-use Prim.Native.Nat.{ℕ, ◌+◌, ◌-◌, ◌≤◌}
+use Prim.Native.Nat.{ℕ, ◌+◌}
 use mathlib.Core.Path.{◌≡◌, ap, ◌∙◌}
+use mathlib.Core.Bool.{not}
 use native.Mathlib.Omega.{arith}
 use borrow.Author.Rules.{rules, sfits_of}
 use lib.IntN.{ℤ}
@@ -12,20 +13,15 @@ use Rattle.level.specs.Measuring.{measured_below}
 use Rattle.level.proofs.Tests.{tested}
 use Rattle.level.proofs.Measuring.{SoFar, none_yet, one_more, sum_small, out_found, all_measured}
 use Rattle.level.proofs.distance.Goals as goal
-
--- the loop's turn that a measured slot belongs to
-abbrev at : goal.After-bit_cost-sum invariant-loop decreases-loop → goal.At-loop-i invariant-loop decreases-loop
-at c = c.before.before.before.before.before.before
+use Rattle.level.proofs.distance.Goals.{After-bit_cost-sum}
 
 -- after the slot that was measured
-next : (c : goal.After-bit_cost-sum invariant-loop decreases-loop)
-    → SoFar (at c).before.before.args.levels.now (word_of (at c).before.before.args.x) ((at c).loop.i + 1) ((at c).loop.sum + c.bit-cost.result)
+next : (c : After-bit_cost-sum) → SoFar c.args.levels.now (word_of c.args.x) (c.loop-i.i + 1) (c.loop-i.sum + c.bit_cost-sum.result)
 next c =
-    let level = level_at (at c).before.before.args.levels.now (at c).loop.i in
-    let known = c.before.before.before.before.level.given in
-    one_more (at c).loop.invariant.1 _ _ (tested level known c.before.before.before.in_range.ensures c.before.before.if1.false)
-    c.before.bit.ensures
-    (c.bit-cost.ensures ∙ ap (λ (z : ℤ). slot_cost z c.before.bit.result) (to_z-of_z w32 level (sfits_of known)))
+    let level = level_at c.args.levels.now c.loop-i.i in
+    one_more c.loop-i.invariant.1 _ _ (tested level (search rules) c.in_range.ensures (ap not c.if-not-in_range.false))
+    c.bit.ensures
+    (c.bit_cost-sum.ensures ∙ ap (λ (z : ℤ). slot_cost z c.bit.result) (to_z-of_z w32 level (sfits_of (search rules))))
 
 pub loop-i-init : goal.loop-i-init
 loop-i-init c = (omega arith, none_yet _ _)
@@ -37,11 +33,11 @@ pub returns-then-not-in_range : goal.returns-then-not-in_range
 returns-then-not-in_range c =
     let level = level_at c.args.levels.now c.loop-i.i in
     out_found c.loop-i.invariant.1 _ c.loop-i-test.true
-    (tested level c.level-1.given c.in_range.ensures c.if-not-in_range.true)
+    (tested level (search rules) c.in_range.ensures (ap not c.if-not-in_range.true))
     ∙ ap (λ (slots : ℕ). measured_below slots c.args.levels.now (word_of c.args.x)) c.counted-slots.ensures
 
 pub overflow_add-sum : goal.overflow_add-sum
-overflow_add-sum c = record { fits = omega (arith, sum_small (next c) (omega (arith, (at c).before.counted.ensures))) }
+overflow_add-sum c = record { fits = omega (arith, sum_small (next c) (omega (arith, c.counted-slots.ensures))) }
 
 pub loop-i-preserved : goal.loop-i-preserved
 loop-i-preserved c = (omega arith, next c)

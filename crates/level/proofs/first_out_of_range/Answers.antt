@@ -1,14 +1,12 @@
 -- `level::first_out_of_range` meets its contract: every level before i is in range.
-use Prim.Native.Nat.{ℕ, ◌≤◌, ◌<◌, ◌-◌}
-use mathlib.Core.Path.{◌≡◌}
-use mathlib.Core.Bool.{false, not}
+use mathlib.Core.Path.{ap}
+use mathlib.Core.Bool.{not}
 use native.Mathlib.Nat.{not-suc-le-zero}
 use native.Mathlib.Omega.{arith}
-use lib.ListN.{length}
 use borrow.Author.Count.{below_more}
 use borrow.Author.Rules.{rules}
 use borrow.Author.Tests.{lt-ltb, le-ltb}
-use Rattle.rules.specs.Level.{in_range, level_at}
+use Rattle.rules.specs.Level.{level_at}
 use Rattle.laws.specs.Numbers.Sums.{some_of, none_of}
 use Rattle.level.proofs.Tests.{tested}
 use Rattle.level.proofs.first_out_of_range.Goals as goal
@@ -21,7 +19,7 @@ returns-then-not-in_range c =
     let at = c.loop-i in
     let level = level_at c.args.levels.now at.i in (
       rw (lt-ltb _ _ c.loop-i-test.true)
-          (some_of _ _ _ c.loop-i-test.true (tested level c.in_range-arg-1.given c.in_range.ensures c.if-not-in_range.true) at.invariant.1),
+          (some_of _ _ _ c.loop-i-test.true (tested level (search rules) c.in_range.ensures (ap not c.if-not-in_range.true)) at.invariant.1),
       omega arith,
     )
 
@@ -29,7 +27,7 @@ pub loop-i-preserved : goal.loop-i-preserved
 loop-i-preserved c =
     let at = c.loop-i in
     let level = level_at c.args.levels.now at.i in
-    (search rules, below_more _ _ at.invariant.1 (tested level c.in_range-arg-1.given c.in_range.ensures c.if-not-in_range.false))
+    (search rules, below_more _ _ at.invariant.1 (tested level (search rules) c.in_range.ensures (ap not c.if-not-in_range.false)))
 
 pub returns : goal.returns
 returns c = (

@@ -2,15 +2,8 @@
 use Prim.Native.Nat.{ℕ, ◌≤◌, ◌<◌, ◌-◌}
 use mathlib.Core.Path.{◌≡◌}
 use mathlib.Core.Bool.{false, not}
-use native.Mathlib.Nat.{not-suc-le-zero}
-use native.Mathlib.Omega.{arith}
 use lib.ListN.{length}
-use borrow.Author.Count.{below_more}
-use borrow.Author.Rules.{rules}
-use borrow.Author.Tests.{lt-ltb, le-ltb}
 use Rattle.rules.specs.Level.{in_range, level_at}
-use Rattle.laws.specs.Numbers.Sums.{some_of, none_of}
-use Rattle.level.proofs.Tests.{tested}
 use Rattle.level.proofs.first_out_of_range.Given as goal
 
 abbrev pub invariant-loop-i : goal.invariant-loop-i

@@ -4,7 +4,6 @@ use mathlib.Core.Bool.{true, false}
 use Prim.Native.Nat.{◌-◌}
 use lib.IntN.{negsuc}
 use lib.Signed.{le_z}
-use borrow.Author.Rules.{rules}
 use mir.Syntax.{w32}
 use mir.ValLaws.{to_z-of_z}
 use Rattle.rules.specs.Level.{limit}

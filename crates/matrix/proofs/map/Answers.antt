@@ -1,6 +1,5 @@
 -- `matrix::map` meets its contract.
 use mathlib.Core.Path.{ap, ◌∙◌}
-use borrow.Author.Rules.{rules}
 use Rattle.rules.specs.Word.{codeword}
 use Rattle.rules.specs.Refusals.{largest}
 use Rattle.matrix.proofs.map.Goals as goal

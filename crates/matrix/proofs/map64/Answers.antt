@@ -1,7 +1,6 @@
 -- `matrix::map64` meets its contract, by the law of halves.
 use mathlib.Core.Path.{sym}
 use Rattle.laws.specs.Code.Matrix.{codeword-halves}
-use borrow.Author.Rules.{rules}
 use Rattle.matrix.proofs.map64.Goals as goal
 
 pub returns : goal.returns

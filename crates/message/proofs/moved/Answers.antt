@@ -1,7 +1,6 @@
 -- `message::moved` meets its contract: a bit shifted within the word loses nothing.
 use native.Mathlib.Omega.{arith}
 use lib.Pow.{shl_exact}
-use borrow.Author.Rules.{rules}
 use Rattle.message.proofs.moved.Goals as goal
 
 pub returns : goal.returns

@@ -1,14 +1,8 @@
 -- `rows::add_slots` meets its contract: before each turn what slot t adds is gathered for the first k groups.
-use Prim.Native.Nat.{◌+◌, ◌-◌, ◌≤◌, ◌<◌}
-use mathlib.Core.Path.{◌≡◌, refl, ◌∙◌}
-use native.Mathlib.Omega.{arith}
-use lib.ListN.{length, length-set}
-use lib.Pow.{pow_mono}
-use borrow.Author.Rules.{rules}
-use Rattle.laws.specs.Numbers.Bits.{power_shifted}
+use Prim.Native.Nat.{◌-◌, ◌≤◌}
+use mathlib.Core.Path.{◌≡◌}
+use lib.ListN.{length}
 use Rattle.rows.specs.Lanes.{FourAdd}
-use Rattle.rows.proofs.LaneRows.{four_none, four_more, lanes_ready, rows_more}
-use Rattle.rows.proofs.Places.{place, seat-inside, groups_few, size_small, entries_shifted}
 use Rattle.rows.proofs.add_slots.Given as goal
 
 abbrev pub invariant-loop-k : goal.invariant-loop-k

@@ -1,12 +1,7 @@
 -- `rows::four_rows` meets its contract: before each turn the four lanes begin with the rows of their groups' first t slots.
-use Prim.Native.Nat.{suc, ◌+◌, ◌-◌, ◌%◌, ◌≤◌, ◌<◌, min}
-use mathlib.Core.Path.{◌≡◌, refl}
-use native.Mathlib.Numerals.{add-one}
-use native.Mathlib.Omega.{arith}
-use borrow.Author.Rules.{rules}
+use Prim.Native.Nat.{◌+◌, ◌-◌, ◌%◌, ◌≤◌}
+use mathlib.Core.Path.{◌≡◌}
 use Rattle.rows.specs.Cells.{Shaped, Filled}
-use Rattle.rows.proofs.Filling.{filled_now, filled_kept}
-use Rattle.rows.proofs.Places.{groups_few, size_even}
 use Rattle.rows.proofs.four_rows.Given as goal
 
 abbrev pub invariant-loop-t : goal.invariant-loop-t

@@ -1,10 +1,8 @@
 -- `rows::rows` meets its contract: before each turn the groups before k have their rows.
-use Prim.Native.Nat.{◌-◌, ◌%◌, ◌<◌, min}
+use Prim.Native.Nat.{◌<◌, min}
 use mathlib.Core.Path.{◌≡◌, refl}
 use native.Mathlib.Nat.{le_refl}
 use native.Mathlib.Omega.{arith}
-use borrow.Author.Rules.{rules}
-use Rattle.rows.specs.Cells.{Shaped, Built}
 use Rattle.rows.proofs.Cells.{shaped_none}
 use Rattle.rows.proofs.Filling.{built_more, rows_right}
 use Rattle.rows.proofs.Places.{groups_few, four_sized}
@@ -25,7 +23,10 @@ pub four_rows-requires : goal.four_rows-requires
 four_rows-requires c =
     let l = c.loop-k in
     let few : 2 < c.args.size = omega (arith, c.if-size-le2.false) in
-    ((few, four_sized c.requires.0 few c.loop-k-test.true l.invariant.0, c.requires.1, c.requires.2), (l.invariant.2, l.invariant.1))
+    record {
+      slots = (few, four_sized c.requires.0 few c.loop-k-test.true l.invariant.0, c.requires.1, c.requires.2);
+      tables = (l.invariant.2, l.invariant.1);
+    }
 
 pub overflow_add-k : goal.overflow_add-k
 overflow_add-k c =
@@ -35,7 +36,7 @@ pub loop-k-preserved : goal.loop-k-preserved
 loop-k-preserved c =
     let l = c.loop-k in
     let rows = c.four_rows.ensures in
-    (omega (arith, l.invariant.0), rows.0, rows.1.shaped, built_more rows.1 l.invariant.3)
+    (omega (arith, l.invariant.0), rows.spare, rows.rows.shaped, built_more rows.rows l.invariant.3)
 
 pub returns : goal.returns
 returns c =

@@ -1,13 +1,7 @@
 -- `rows::rows` meets its contract: before each turn the groups before k have their rows.
-use Prim.Native.Nat.{◌-◌, ◌%◌, ◌<◌, min}
-use mathlib.Core.Path.{◌≡◌, refl}
-use native.Mathlib.Nat.{le_refl}
-use native.Mathlib.Omega.{arith}
-use borrow.Author.Rules.{rules}
+use Prim.Native.Nat.{◌-◌, ◌%◌}
+use mathlib.Core.Path.{◌≡◌}
 use Rattle.rows.specs.Cells.{Shaped, Built}
-use Rattle.rows.proofs.Cells.{shaped_none}
-use Rattle.rows.proofs.Filling.{built_more, rows_right}
-use Rattle.rows.proofs.Places.{groups_few, four_sized}
 use Rattle.rows.proofs.rows.Given as goal
 
 abbrev pub invariant-loop-k : goal.invariant-loop-k

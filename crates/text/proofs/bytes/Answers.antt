@@ -1,12 +1,12 @@
 -- `text::bytes` meets its contract. Invariant: the bytes below i are put.
-use Prim.Native.Nat.{◌+◌, ◌-◌, ◌≤◌}
+use Prim.Native.Nat.{◌+◌}
 use mathlib.Core.Path.{◌≡◌}
 use native.Mathlib.Nat.{add-zero}
 use native.Mathlib.Numerals.{add-one}
 use native.Mathlib.Omega.{arith}
-use lib.ListN.{length, take}
+use lib.ListN.{length}
 use lib.Seq.{take-suc, take-length}
-use Rattle.text.specs.Puts.{Put, put_none, put-length, put_byte}
+use Rattle.text.specs.Puts.{put_none, put-length, put_byte}
 use Rattle.text.proofs.bytes.Goals as goal
 
 pub loop-i-init : goal.loop-i-init

@@ -1,6 +1,5 @@
 -- `text::digit` meets its contract.
 use borrow.Author.Tests.{lt-ltb, le-ltb}
-use borrow.Author.Rules.{rules}
 use Rattle.text.proofs.digit.Goals as goal
 
 pub returns-then-v-lt10 : goal.returns-then-v-lt10

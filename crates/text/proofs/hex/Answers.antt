@@ -1,12 +1,12 @@
 -- `text::hex` meets its contract. Invariant: the highest i digits are put.
-use Prim.Native.Nat.{suc, ◌+◌, ◌-◌, ◌*◌, ◌/◌, ◌%◌, ◌^◌, ◌≤◌}
+use Prim.Native.Nat.{suc, ◌+◌, ◌-◌, ◌*◌, ◌/◌, ◌%◌, ◌^◌}
 use mathlib.Core.Path.{◌≡◌}
 use native.Mathlib.Nat.{add-zero, div-one}
 use native.Mathlib.Numerals.{add-one}
 use native.Mathlib.Omega.{arith}
 use Rattle.rules.specs.Text.{digit, hex}
 use Rattle.laws.specs.Numbers.Digits.{hex_more, sixteens}
-use Rattle.text.specs.Puts.{Put, put_none, put-length, put_byte}
+use Rattle.text.specs.Puts.{put_none, put-length, put_byte}
 use Rattle.text.proofs.hex.Goals as goal
 
 pub loop-i-init : goal.loop-i-init

@@ -1,12 +1,7 @@
 -- `text::hex` meets its contract. Invariant: the highest i digits are put.
-use Prim.Native.Nat.{suc, ◌+◌, ◌-◌, ◌*◌, ◌/◌, ◌%◌, ◌^◌, ◌≤◌}
-use mathlib.Core.Path.{◌≡◌}
-use native.Mathlib.Nat.{add-zero, div-one}
-use native.Mathlib.Numerals.{add-one}
-use native.Mathlib.Omega.{arith}
-use Rattle.rules.specs.Text.{digit, hex}
-use Rattle.laws.specs.Numbers.Digits.{hex_more, sixteens}
-use Rattle.text.specs.Puts.{Put, put_none, put-length, put_byte}
+use Prim.Native.Nat.{◌+◌, ◌-◌, ◌/◌, ◌^◌, ◌≤◌}
+use Rattle.rules.specs.Text.{hex}
+use Rattle.text.specs.Puts.{Put}
 use Rattle.text.proofs.hex.Given as goal
 
 abbrev pub invariant-loop-i : goal.invariant-loop-i

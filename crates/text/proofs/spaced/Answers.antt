@@ -1,6 +1,5 @@
 -- `text::spaced` meets its contract.
 use Rattle.text.specs.Puts.{put_then}
-use borrow.Author.Rules.{rules}
 use Rattle.text.proofs.spaced.Goals as goal
 
 pub returns : goal.returns

@@ -4,7 +4,6 @@ use mathlib.Core.Path.{◌≡◌, refl}
 use mathlib.Core.Bool.{cond}
 use native.Mathlib.Nat.{mul-le-mul}
 use native.Mathlib.Omega.{arith}
-use borrow.Author.Rules.{rules}
 use borrow.Author.Tests.{ne_eqb}
 use lib.Dec.{eqb}
 use lib.IntN.{ℤ, pos, negsuc, nat_abs}

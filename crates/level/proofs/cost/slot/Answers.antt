@@ -2,7 +2,6 @@
 use Prim.Native.Nat.{ℕ, ◌*◌}
 use mathlib.Core.Path.{◌∙◌, ap, ap₂}
 use mathlib.Core.Bool.{cond}
-use borrow.Author.Rules.{rules}
 use lib.IntN.{ℤ, pos, nat_abs}
 use lib.Signed.{lt_z}
 use mir.Syntax.{w32}

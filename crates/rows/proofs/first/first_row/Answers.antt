@@ -7,17 +7,17 @@ use Rattle.rows.proofs.first.first_row.Goals as goal
 pub one_slot-requires : goal.one_slot-requires
 one_slot-requires c =
     let one = c.if-size-eq1.true in
-    ((c.requires.0.0, rw one at c.requires.0.1), (omega arith, c.requires.1.2, c.requires.1.3))
+    record { room = (c.requires.room.0, rw one at c.requires.room.1); seats = (omega arith, c.requires.seats.2, c.requires.seats.3) }
 
 pub returns-then-size-eq1 : goal.returns-then-size-eq1
 returns-then-size-eq1 c = rw c.if-size-eq1.true c.one_slot.ensures
 
 pub two_slots-requires : goal.two_slots-requires
 two_slots-requires c =
-    let two : min c.args.size 2 ≡ 2 = omega (arith, c.requires.1.0, c.if-size-eq1.false) in
-    ((c.requires.0.0, rw two at c.requires.0.1), (omega arith, c.requires.1.2, c.requires.1.3))
+    let two : min c.args.size 2 ≡ 2 = omega (arith, c.requires.seats.0, c.if-size-eq1.false) in
+    record { room = (c.requires.room.0, rw two at c.requires.room.1); seats = (omega arith, c.requires.seats.2, c.requires.seats.3) }
 
 pub returns : goal.returns
 returns c =
-    let two : min c.args.size 2 ≡ 2 = omega (arith, c.requires.1.0, c.if-size-eq1.false) in
+    let two : min c.args.size 2 ≡ 2 = omega (arith, c.requires.seats.0, c.if-size-eq1.false) in
     rw two c.two_slots.ensures

@@ -1,9 +1,6 @@
 -- `rows::first::first_rows` meets its contract: before each turn the groups before k have their rows.
-use Prim.Native.Nat.{◌-◌, ◌≤◌, min}
 use mathlib.Core.Path.{◌≡◌}
 use native.Mathlib.Omega.{arith}
-use borrow.Author.Rules.{rules}
-use Rattle.rows.specs.Cells.{Filled}
 use Rattle.rows.proofs.Filling.{place_room, filled_none, filled_more}
 use Rattle.rows.proofs.Places.{place, size-some, size_small, entries_shifted}
 use Rattle.rows.proofs.first.first_rows.Goals as goal
@@ -26,10 +23,10 @@ pub first_row-requires : goal.first_row-requires
 first_row-requires c =
     let g = c.requires.1 in
     let less = c.loop-k-test.true in
-    rw (entries_shifted g) (
-      (c.loop-k.invariant.2.shaped, place_room g less (omega arith)),
-      (size-some g, (place g less).seats, c.requires.2, c.requires.3),
-    )
+    rw (entries_shifted g) (record {
+      room = (c.loop-k.invariant.2.shaped, place_room g less (omega arith));
+      seats = (size-some g, (place g less).seats, c.requires.2, c.requires.3);
+    })
 
 pub loop-k-preserved : goal.loop-k-preserved
 loop-k-preserved c =

@@ -1,11 +1,6 @@
 -- `rows::first::first_rows` meets its contract: before each turn the groups before k have their rows.
 use Prim.Native.Nat.{◌-◌, ◌≤◌, min}
-use mathlib.Core.Path.{◌≡◌}
-use native.Mathlib.Omega.{arith}
-use borrow.Author.Rules.{rules}
 use Rattle.rows.specs.Cells.{Filled}
-use Rattle.rows.proofs.Filling.{place_room, filled_none, filled_more}
-use Rattle.rows.proofs.Places.{place, size-some, size_small, entries_shifted}
 use Rattle.rows.proofs.first.first_rows.Given as goal
 
 abbrev pub invariant-loop-k : goal.invariant-loop-k

@@ -3,7 +3,6 @@ use Prim.Native.Nat.{◌+◌, ◌≤◌}
 use native.Mathlib.Omega.{arith}
 use lib.Pow.{pow_mono}
 use Rattle.laws.specs.Numbers.Bits.{power_shifted}
-use borrow.Author.Rules.{rules}
 use Rattle.rows.proofs.first.slot_entries.Goals as goal
 
 pub overflow_mul-zero : goal.overflow_mul-zero
@@ -31,4 +30,4 @@ returns c =
     let low = c.requires.2 (c.args.first + c.args.t) c.requires.1 in
     let high = c.requires.3 (c.args.first + c.args.t) c.requires.1 in
     let pattern = pow_mono {j = 1} few in
-    (record { lower = own.0; higher = own.1 }, (omega arith, omega arith))
+    record { in_order = record { lower = own.0; higher = own.1 }; small = (omega arith, omega arith) }

@@ -1,8 +1,6 @@
 -- `rows::lanes::double_lanes` meets its contract: before each turn the first k lanes are whole.
-use Prim.Native.Nat.{◌-◌, ◌≤◌}
 use native.Mathlib.Omega.{arith}
-use borrow.Author.Rules.{rules}
-use Rattle.rows.proofs.LaneMirrors.{Mirroring, mirroring_none, mirroring_more, mirroring_all, sum_fits}
+use Rattle.rows.proofs.LaneMirrors.{mirroring_none, mirroring_more, mirroring_all, sum_fits}
 use Rattle.rows.proofs.lanes.double_lanes.Goals as goal
 
 pub merge_lanes-requires : goal.merge_lanes-requires
@@ -74,10 +72,10 @@ mirror-requires c =
     let less = c.loop-k-test.true in
     let place = lanes.place k less in
     let s = c.loop-k.invariant.1 in
-    rw (c.entry-in-loop-k.ensures, c.entry.ensures) (
-      (s.lower.shaped, record { inside = place.inside; edge = omega (arith, place.edge, lanes.room) }),
-      sum_fits lanes less s,
-    )
+    rw (c.entry-in-loop-k.ensures, c.entry.ensures) (record {
+      room = (s.lower.shaped, record { inside = place.inside; edge = omega (arith, place.edge, lanes.room) });
+      within_both = sum_fits lanes less s;
+    })
 
 pub loop-k-preserved : goal.loop-k-preserved
 loop-k-preserved c =

@@ -1,8 +1,6 @@
 -- `rows::lanes::double_lanes` meets its contract: before each turn the first k lanes are whole.
 use Prim.Native.Nat.{◌-◌, ◌≤◌}
-use native.Mathlib.Omega.{arith}
-use borrow.Author.Rules.{rules}
-use Rattle.rows.proofs.LaneMirrors.{Mirroring, mirroring_none, mirroring_more, mirroring_all, sum_fits}
+use Rattle.rows.proofs.LaneMirrors.{Mirroring}
 use Rattle.rows.proofs.lanes.double_lanes.Given as goal
 
 abbrev pub invariant-loop-k : goal.invariant-loop-k

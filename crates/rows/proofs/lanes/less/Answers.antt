@@ -4,7 +4,6 @@ use mathlib.Core.Path.{◌≡◌, refl}
 use mathlib.Core.Bool.{Bool, true, false, cond}
 use native.Mathlib.Omega.{arith}
 use lib.Dec.{ltb}
-use borrow.Author.Rules.{rules}
 use mir.Val.{bool_byte}
 use Rattle.rows.proofs.lanes.less.Goals as goal
 

@@ -1,9 +1,6 @@
 -- `rows::lanes::merge_lanes` meets its contract: before each turn every lane has the first t entries of its row.
 use Prim.Native.Nat.{◌-◌}
-use mathlib.Core.Path.{refl}
-use native.Mathlib.Omega.{arith}
-use borrow.Author.Rules.{rules}
-use Rattle.rows.proofs.LaneTurns.{turning_none, turn_ready, InStep, step_more, step_all}
+use Rattle.rows.proofs.LaneTurns.{InStep}
 use Rattle.rows.proofs.lanes.merge_lanes.Given as goal
 
 abbrev pub invariant-loop-t : goal.invariant-loop-t

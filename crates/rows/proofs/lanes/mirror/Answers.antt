@@ -1,25 +1,22 @@
 -- `rows::lanes::mirror` meets its contract: each turn stores what is left to the sum.
-use Prim.Native.Nat.{◌-◌, ◌≤◌}
 use mathlib.Core.Path.{◌≡◌}
 use native.Mathlib.Omega.{arith}
-use borrow.Author.Rules.{rules}
-use Rattle.rows.specs.Lanes.{Completed}
 use Rattle.rows.proofs.LaneMirrors.{completed_none, lower_same, completed_more}
 use Rattle.rows.proofs.lanes.mirror.Goals as goal
 
 pub loop-t-init : goal.loop-t-init
-loop-t-init c = (omega arith, completed_none _ _ _ c.requires.0.0)
+loop-t-init c = (omega arith, completed_none _ _ _ c.requires.room.0)
 
 pub overflow_sub-both : goal.overflow_sub-both
 overflow_sub-both c =
     let l = c.loop-t in
     let less = c.loop-t-test.true in
-    rw (c.entry.ensures, lower_same l.invariant.1 less) (c.requires.1 l.t less)
+    rw (c.entry.ensures, lower_same l.invariant.1 less) (c.requires.within_both l.t less)
 
 pub loop-t-preserved : goal.loop-t-preserved
 loop-t-preserved c =
     let l = c.loop-t in
-    let room = c.requires.0.1 in
+    let room = c.requires.room.1 in
     (omega arith, rw (c.store.ensures, c.entry.ensures) (completed_more l.invariant.1 c.loop-t-test.true (omega (arith, room.inside, room.edge))))
 
 pub returns : goal.returns

@@ -1,10 +1,6 @@
 -- `rows::lanes::mirror` meets its contract: each turn stores what is left to the sum.
 use Prim.Native.Nat.{◌-◌, ◌≤◌}
-use mathlib.Core.Path.{◌≡◌}
-use native.Mathlib.Omega.{arith}
-use borrow.Author.Rules.{rules}
 use Rattle.rows.specs.Lanes.{Completed}
-use Rattle.rows.proofs.LaneMirrors.{completed_none, lower_same, completed_more}
 use Rattle.rows.proofs.lanes.mirror.Given as goal
 
 abbrev pub invariant-loop-t : goal.invariant-loop-t

@@ -1,6 +1,5 @@
 -- `rows::lanes::turn` meets its contract.
 use mathlib.Core.Path.{refl}
-use borrow.Author.Rules.{rules}
 use Rattle.rows.proofs.lanes.turn.Goals as goal
 
 pub returns : goal.returns

@@ -1,7 +1,6 @@
 -- `rows::table::entry` meets its contract.
 use mathlib.Core.Path.{sym}
 use Rattle.rows.proofs.Cells.{cell_at}
-use borrow.Author.Rules.{rules}
 use Rattle.rows.proofs.table.entry.Goals as goal
 
 pub returns : goal.returns

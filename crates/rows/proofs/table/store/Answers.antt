@@ -1,7 +1,6 @@
 -- `rows::table::store` meets its contract.
 use mathlib.Core.Path.{sym}
 use Rattle.rows.proofs.Cells.{put_at}
-use borrow.Author.Rules.{rules}
 use Rattle.rows.proofs.table.store.Goals as goal
 
 pub returns : goal.returns

@@ -2,7 +2,6 @@
 use mathlib.Core.Path.{ap}
 use mathlib.Core.Option.{some}
 use native.Mathlib.Omega.{arith}
-use borrow.Author.Rules.{rules}
 use Rattle.word.proofs.count.fewer.Goals as goal
 
 pub returns-in-NoIndex : goal.returns-in-NoIndex

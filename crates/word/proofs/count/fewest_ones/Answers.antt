@@ -1,5 +1,5 @@
 -- `word::count::fewest_ones` meets its contract. Invariant: what was found is the fewest ones below i.
-use Prim.Native.Nat.{ℕ, ◌≤◌, ◌-◌, ◌^◌}
+use Prim.Native.Nat.{ℕ, ◌^◌}
 use mathlib.Core.Option.{Option, some}
 use mathlib.Core.Path.{◌≡◌, ◌∙◌, sym, ap}
 use native.Mathlib.Numerals.{add-one}
@@ -24,12 +24,12 @@ loop-i-preserved c =
     let read = c.bit.ensures in (
       omega arith,
       rw add-one
-      (elim c.if-bit-eq0.branch [
-        then-bit-eq0 w ↦
-        rw (eq-eqb _ _ (sym read ∙ w.if-bit-eq0.true))
-        (ap fewest_of w.found-is ∙ w.fewer-found.ensures ∙ ap (λ (f : Option ℕ). some (or_less (ones c.loop-i.i) f)) before)
-      | else-bit-eq0 w ↦ rw (ne_eqb _ _ (λ e. w.if-bit-eq0.false (read ∙ e))) (ap fewest_of w.found-is ∙ before)
-      ]),
+          (elim c.if-bit-eq0.branch [
+            | then-bit-eq0 w ↦
+                rw (eq-eqb _ _ (sym read ∙ w.if-bit-eq0.true))
+                (ap fewest_of w.found-is ∙ w.fewer-found.ensures ∙ ap (λ (f : Option ℕ). some (or_less (ones c.loop-i.i) f)) before)
+            | else-bit-eq0 w ↦ rw (ne_eqb _ _ (λ e. w.if-bit-eq0.false (read ∙ e))) (ap fewest_of w.found-is ∙ before)
+          ]),
     )
 
 pub returns : goal.returns

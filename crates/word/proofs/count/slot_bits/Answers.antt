@@ -6,7 +6,6 @@ use native.Mathlib.Omega.{arith}
 use lib.Pow.{pow_pos}
 use Rattle.word.specs.Words.{word_of, size_of}
 use Rattle.word.proofs.Shifts.{one_shifted, slots_le}
-use borrow.Author.Rules.{rules}
 use Rattle.word.proofs.count.slot_bits.Goals as goal
 
 pub nonzero_rem-result : goal.nonzero_rem-result

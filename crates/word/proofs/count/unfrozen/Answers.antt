@@ -4,7 +4,6 @@ use mathlib.Core.Path.{ap}
 use lib.Count.{ones}
 use Rattle.word.specs.Words.{word_of, size_of}
 use Rattle.laws.specs.Numbers.Counts.{bits-and-ones}
-use borrow.Author.Rules.{rules}
 use Rattle.word.proofs.count.unfrozen.Goals as goal
 
 pub overflow_sub-result : goal.overflow_sub-result

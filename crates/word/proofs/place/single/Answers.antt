@@ -2,7 +2,6 @@
 use mathlib.Core.Path.{sym, ap, ◌∙◌}
 use Prim.Native.Nat.{ℕ, ◌%◌, ◌^◌}
 use native.Mathlib.Nat.{one-mul}
-use borrow.Author.Rules.{rules}
 use Rattle.word.specs.Words.{word_of}
 use Rattle.word.proofs.Shifts.{past_word}
 use Rattle.word.proofs.place.single.Goals as goal
