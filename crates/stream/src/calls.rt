@@ -1,5 +1,6 @@
 // The calls of the system: reading and writing, and what is said on standard error where one of them fails.
-ghost use Rattle.std.specs.Prelude.{◌≤◌, length};
+ghost use Rattle.std.specs.Prelude.{◌≤◌, ◌<◌, length, take, IsNone, OnOk};
+ghost use Rattle.std.specs.Io.KnownBytes.{Appends, Consumes, IsAtEnd};
 
 use std::alloc::Global;
 use std::io;
@@ -13,9 +14,11 @@ pub struct Got {
 }
 
 // Reads until there are so many bytes, the input ends or a read fails.
-pub fn fill(input: &mut impl Read, bytes: &mut [u8], most: usize) -> Got
+pub fn fill<R: Read>(input: &mut R, bytes: &mut [u8], most: usize) -> Got
     requires { most ≤ length bytes.old }
-    ensures { result.len ≤ most }
+    ensures in_bounds { result.len ≤ most }
+    ensures read { Consumes (R.remaining input.old) (R.remaining input.new) (take result.len bytes.new) }
+    ensures end { result.len < most → IsNone result.failure → IsAtEnd (R.remaining input.new) }
 {
     let mut len = 0;
     while len < most {
@@ -38,7 +41,9 @@ pub fn fill(input: &mut impl Read, bytes: &mut [u8], most: usize) -> Got
 }
 
 // Writes until all of the bytes are written, or a write takes nothing or fails. A write that a signal has interrupted has failed.
-pub fn put(output: &mut impl Write, bytes: &[u8]) -> io::Result<()> {
+pub fn put<W: Write>(output: &mut W, bytes: &[u8]) -> io::Result<()>
+    ensures { OnOk result (Appends (W.contents output.old) (W.contents output.new) bytes.now) }
+{
     let mut done = 0;
     while done < bytes.len() {
         let more = output.write(&bytes[done..])?;
