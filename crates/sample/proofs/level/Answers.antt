@@ -4,7 +4,6 @@ use mathlib.Core.Path.{◌≡◌, refl, sym, ap, subst, ◌∙◌}
 use mathlib.Core.Bool.{Bool, true, false, true≢false}
 use native.Mathlib.Nat.{min-le_right}
 use native.Mathlib.Omega.{arith}
-use borrow.Author.Rules.{rules}
 use lib.Dec.{T}
 use lib.IntN.{ℤ, pos, neg_ℤ, ◌-ℤ◌, +ℤ_idl}
 use lib.Ieee.{Float, nan, inf, fin, binary32, lt, mul, of_bits}
@@ -16,12 +15,10 @@ use Rattle.rules.specs.Level.{limit}
 use Rattle.rules.specs.Sample.{signed, level_of}
 use Rattle.rules.specs.Refusals.{done}
 use Rattle.rules.specs.Answers.{level_answer}
-use Rattle.sample.specs.Steps.{quantised_of}
-use Rattle.sample.specs.Steps.{whole_of, Near}
+use Rattle.sample.specs.Steps.{quantised_of, whole_of, Near}
 use Rattle.sample.specs.declared.Quantised.TheVariants.{NotFinite}
 use Rattle.sample.proofs.Scaled.{scale, scaled-within, scaled_level}
-use Rattle.sample.proofs.level.Statement.{statement}
-use Rattle.sample.proofs.level.Tie as tie
+use Rattle.sample.proofs.level.Goals as goal
 
 fits : (s : Bool) (q : ℕ) → q ≤ limit → SFits w32 (signed s q)
 fits false q h = record { sfits = omega arith }
@@ -46,55 +43,34 @@ not_finite nan e = refl
 not_finite (inf t) e = refl
 not_finite (fin t m x) e = absurd (true≢false (sym e))
 
-is-finite-requires : tie.Need-is-finite-requires
-is-finite-requires c κs = search rules
+pub near-x-requires : goal.near-x-requires
+near-x-requires c = subst T (sym c.if-is_finite.true ∙ c.is_finite.ensures) tt
 
-near-requires : tie.Need-near-requires
-near-requires c κs = subst T (sym c.if1.true ∙ c.before.is_finite.ensures) tt
-
-nearest-requires : tie.Need-nearest-requires
+pub nearest-requires : goal.nearest-requires
 unfolding of_bits
-nearest-requires c κs = scaled-within c.near.result c.near.ensures.held c.near.ensures.inside
+nearest-requires c = scaled-within c.near-x.result c.near-x.ensures.held c.near-x.ensures.inside
 
-clipped-requires : tie.Need-clipped-requires
-clipped-requires c κs = search rules
+pub overflow_sub-result : goal.overflow_sub-result
+overflow_sub-result c =
+    let q = min c.nearest.result limit in
+    let h : q ≤ limit = min-le_right c.nearest.result limit in
+    rw (c.clipped-size.ensures, negated q h) (fits true q h)
 
-sub-t8 : tie.Need-overflow-sub-t8
-sub-t8 c =
-    let q = min c.before.before.nearest.result limit in
-    let h : q ≤ limit = min-le_right c.before.before.nearest.result limit in
-    rw (c.before.clipped.ensures, negated q h) (fits true q h)
-
-returns : tie.Need-returns
+pub returns-then-x : goal.returns-then-x
 unfolding of_bits
-returns c =
-    let at-near = c.before.before.before in
-    let p = c.before.before.nearest.result in
+returns-then-x c =
+    let p = c.nearest.result in
     let h : min p limit ≤ limit = min-le_right p limit in
-    rw (c.before.clipped.ensures, negated (min p limit) h, back true (min p limit) h)
-    (found true at-near.before.before.before.args.s at-near.near.result p at-near.near.ensures c.if2.true c.before.before.nearest.ensures)
+    rw (c.clipped-size.ensures, negated (min p limit) h, back true (min p limit) h)
+    (found true c.args.s c.near-x.result p c.near-x.ensures c.if-x.true c.nearest.ensures)
 
-returns-2 : tie.Need-returns-2
+pub returns-then-is_finite : goal.returns-then-is_finite
 unfolding of_bits
-returns-2 c =
-    let at-near = c.before.before.before in
-    let p = c.before.before.nearest.result in
+returns-then-is_finite c =
+    let p = c.nearest.result in
     let h : min p limit ≤ limit = min-le_right p limit in
-    rw (c.before.clipped.ensures, back false (min p limit) h)
-    (found false at-near.before.before.before.args.s at-near.near.result p at-near.near.ensures c.if2.false c.before.before.nearest.ensures)
+    rw (c.clipped-size.ensures, back false (min p limit) h)
+    (found false c.args.s c.near-x.result p c.near-x.ensures c.if-x.false c.nearest.ensures)
 
-returns-3 : tie.Need-returns-3
-returns-3 c = not_finite c.before.before.args.s (sym c.if1.false ∙ c.before.is_finite.ensures)
-
-pub level-spec : {M : Type 1} → statement M
-level-spec =
-    tie.close
-    (tie.spec
-    is-finite-requires
-    near-requires
-    nearest-requires
-    clipped-requires
-    sub-t8
-    returns
-    returns-2
-    returns-3)
+pub returns : goal.returns
+returns c = not_finite c.args.s (sym c.if-is_finite.false ∙ c.is_finite.ensures)

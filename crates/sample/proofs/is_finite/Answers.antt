@@ -5,8 +5,7 @@ use lib.Dec.{T}
 use lib.Ieee.{Float, nan, inf, fin, eq, ne, neg, of_bits, nan_bits}
 use lib.Ieee.Compare.{differs_from_itself}
 use lib.Ieee.Scale.{finite}
-use Rattle.sample.proofs.is_finite.Statement.{statement}
-use Rattle.sample.proofs.is_finite.Tie as tie
+use Rattle.sample.proofs.is_finite.Goals as goal
 
 not_finite : (s : Float) → eq s (inf false) ≡ true → false ≡ finite s
 unfolding eq
@@ -21,20 +20,17 @@ the-other (inf true) e h = refl
 the-other (inf false) e h = absurd (true≢false h)
 the-other (fin t m x) e h = refl
 
-returns : tie.Need-returns
-returns c = sym (ap finite (differs_from_itself c.before.args.s (subst T (sym c.if1.true) tt)))
+pub returns-then-s : goal.returns-then-s
+returns-then-s c = sym (ap finite (differs_from_itself c.args.s (subst T (sym c.if-s.true) tt)))
 
-float-from-bits-infinite : tie.Need-float-from-bits-infinite
+pub float_from_bits-infinite : goal.float_from_bits-infinite
 unfolding nan_bits
-float-from-bits-infinite c = tt
+float_from_bits-infinite c = tt
 
-returns-2 : tie.Need-returns-2
+pub returns-then-s-infinite : goal.returns-then-s-infinite
 unfolding of_bits
-returns-2 c = not_finite c.before.before.args.s c.if2.true
+returns-then-s-infinite c = not_finite c.args.s c.if-s-infinite.true
 
-returns-3 : tie.Need-returns-3
+pub returns : goal.returns
 unfolding of_bits neg
-returns-3 c = the-other c.before.before.args.s c.before.if1.false c.if2.false
-
-pub is-finite-spec : {M : Type 1} → statement M
-is-finite-spec = tie.close (tie.spec returns float-from-bits-infinite returns-2 returns-3)
+returns c = the-other c.args.s c.if-s.false c.if-s-infinite.false
