@@ -13,9 +13,7 @@ use Rattle.walk.specs.Nodes.{Begun, most}
 use Rattle.groups.specs.declared.Tree.{Tree}
 use Rattle.groups.proofs.Tabling.{all_indices}
 use Rattle.walk.proofs.Trying.{running_state, under}
-use borrow.Author.Rules.{rules}
-use Rattle.walk.proofs.walk.Statement.{statement}
-use Rattle.walk.proofs.walk.Tie as tie
+use Rattle.walk.proofs.walk.Goals as goal
 
 -- the word 0, and room for the distance of every slot
 begin : {g : Tree} → Grouped g → Begun g g.groups 0 0
@@ -32,26 +30,17 @@ begin {g} given =
           );
     }
 
-none-requires : tie.Need-none-requires
-none-requires c κs = search rules
+pub node-requires : goal.node-requires
+node-requires c =
+    let given = c.requires in
+    record { tabled = given; begun = rw c.none.ensures (begin given.grouped); running = omega (arith, c.start.ensures.1) }
 
-start-requires : tie.Need-start-requires
-start-requires c κs = search rules
-
-node-requires : tie.Need-node-requires
-node-requires c κs =
-    let given = c.before.before.requires in
-    record { tabled = given; begun = rw c.before.none.ensures (begin given.grouped); running = omega (arith, c.start.ensures.1) }
-
-returns : tie.Need-returns
+pub returns : goal.returns
 returns c =
-    let begun = c.before.start.ensures in
-    let args = c.before.before.before.args in
+    let begun = c.start.ensures in
+    let args = c.args in
     let all = args.tree.groups in
     c.node.ensures
     ∙ ap₂ (λ (d : ℕ) (o : Option (State keep_best)). under args.rows.now args.tables.now args.tree all 0 d o)
-    (ap (decided args.tree.n args.tree.folding all) c.before.before.none.ensures ∙ decided_none args.tree.n args.tree.folding all)
-    (running_state args.tree.allowance c.before.start.result (omega (arith, begun.1)) ∙ (λ i. some (record { kept = begun.0 i; visits = begun.1 i })))
-
-pub walk-spec : {M : Type 1} → statement M
-walk-spec = tie.close (tie.spec none-requires start-requires node-requires returns)
+    (ap (decided args.tree.n args.tree.folding all) c.none.ensures ∙ decided_none args.tree.n args.tree.folding all)
+    (running_state args.tree.allowance c.start.result (omega (arith, begun.1)) ∙ (λ i. some (record { kept = begun.0 i; visits = begun.1 i })))
