@@ -21,15 +21,21 @@ use Rattle.sample.specs.Steps.{within, whole_of}
 
 pub whole_of_value : (x : Float) (s : Bool) (a c : ℕ) → 0 < c → HasValue x s a c → whole_of x ≡ nearest_whole a c
 unfolding whole_of nearest_whole
+whole_of_value nan s a c C v = elim v [ ]
+whole_of_value (inf _) s a c C v = elim v [ ]
 whole_of_value (fin t m e) s a c C v = closest_same (m * up e) (down e) a c (down_pos e) C v.1
 
 value_le : (x : Float) (s : Bool) (a c k : ℕ) → HasValue x s a c → T (within k x) → a ≤ k * c
+value_le nan s a c k v w = elim v [ ]
+value_le (inf _) s a c k v w = elim v [ ]
 value_le (fin t m e) s a c k v w =
     le_of_mul-le-mul_right
     (le_trans (le_of_eq (sym v.1)) (le_trans (mul-le-mul_right c (leb→le (m * up e) (k * down e) w)) (le_of_eq (mul_right_comm k (down e) c))))
     (down_pos e)
 
 pub value_within : (x : Float) (s : Bool) (a c k : ℕ) → 0 < c → HasValue x s a c → a ≤ k * c → T (within k x)
+value_within nan s a c k C v h = elim v [ ]
+value_within (inf _) s a c k C v h = elim v [ ]
 value_within (fin t m e) s a c k C v h =
     le→leb (m * up e) (k * down e)
     (le_of_mul-le-mul_right (le_trans (le_of_eq v.1) (le_trans (mul-le-mul_right (down e) h) (le_of_eq (mul_right_comm k c (down e))))) C)

@@ -9,7 +9,7 @@ use borrow.Author.Tests.{ltb-false, le-ltb}
 use lib.Dec.{T, ltb, leb→le, le→leb}
 use lib.IntN.{ℤ, pos}
 use lib.Pow.{pow_mono, pow-add, shl_lt}
-use lib.Ieee.{Float, fin, binary32, up, down, fits, lt, mul, round}
+use lib.Ieee.{Float, nan, inf, fin, binary32, up, down, fits, lt, mul, round}
 use lib.Ieee.Exact.{HasValue, round_exact}
 use lib.Ieee.Fits.{down_pos}
 use Rattle.rules.specs.Level.{limit}
@@ -95,10 +95,14 @@ by_sign true m e q h = go (ltb 0 (m * up e * 1 + 0 * down e)) refl
         rw z refl
 
 pub scaled-within : (x : Float) → T (fits binary32 x) → T (within 8 x) → T (within 2048 (mul binary32 x scale))
+scaled-within nan v w = elim w [ ]
+scaled-within (inf _) v w = elim w [ ]
 scaled-within (fin s m e) v w = in_range s m e v w
 
 pub scaled_level : (x : Float) → T (fits binary32 x) → T (within 8 x)
     → level_of x ≡ some (signed (lt x (fin false 0 (pos 0))) (min (whole_of (mul binary32 x scale)) limit))
+scaled_level nan v w = elim w [ ]
+scaled_level (inf _) v w = elim w [ ]
 scaled_level (fin s m e) v w =
     levels s m e v w
     ∙ ap some
