@@ -4,7 +4,6 @@ use mathlib.Core.Path.{◌≡◌, refl}
 use mathlib.Core.Bool.{Bool, true, false}
 use native.Mathlib.Nat.{mul-le-mul}
 use native.Mathlib.Omega.{arith}
-use borrow.Author.Rules.{rules}
 use borrow.Author.Tests.{ltb-true, ltb-false}
 use lib.Dec.{ltb}
 use lib.IntN.{ℤ, pos, negsuc, nat_abs, neg_ℤ, sub_ℕ, ◌-ℤ◌, ◌+ℤ◌, ◌*ℤ◌}
@@ -13,8 +12,7 @@ use mir.Syntax.{w32}
 use mir.Val.{SFits, of_z, to_z}
 use mir.ValLaws.{to_z-of_z}
 use Rattle.rules.specs.Level.{limit}
-use Rattle.listing.proofs.rule.part.Statement.{statement}
-use Rattle.listing.proofs.rule.part.Tie as tie
+use Rattle.listing.proofs.rule.part.Goals as goal
 
 -- what the two tests say
 in_range : (z : ℤ) → lt_z z (negsuc (limit - 1)) ≡ false → lt_z (pos limit) z ≡ false → nat_abs z ≤ limit
@@ -75,42 +73,24 @@ module _ (z w : ℤ) (f : SFits w32 z) (g : SFits w32 w) (h : nat_abs z ≤ limi
   product-read : to_z w32 (of_z w32 (gap *ℤ gap)) ≡ pos (side * side)
   product-read = rw product (to_z-of_z w32 (pos (side * side)) (fits (pos (side * side)) square_le))
 
-sub-if1 : tie.Need-overflow-sub-if1
-sub-if1 c = search rules
+module _ (z : ℤ) (f : SFits w32 z) (low : lt_z (to_z w32 (of_z w32 z)) (negsuc (limit - 1)) ≡ false)
+    (high : lt_z (pos limit) (to_z w32 (of_z w32 z)) ≡ false) where
+  level-le : nat_abs z ≤ limit
+  level-le = let read = to_z-of_z w32 z f in in_range z (rw read at low) (rw read at high)
 
-returns : tie.Need-returns
-returns c = search rules
+pub overflow_mul-result : goal.overflow_mul-result
+overflow_mul-result c =
+    let level = level-le c.args.level c.ranges.level c.if-level.false c.if-level-gt-LIMIT.false in
+    product-fits c.args.level c.args.ideal c.ranges.level c.ranges.ideal level c.requires
 
-returns-2 : tie.Need-returns-2
-returns-2 c = search rules
+pub overflow_cast-result : goal.overflow_cast-result
+overflow_cast-result c =
+    let level = level-le c.args.level c.ranges.level c.if-level.false c.if-level-gt-LIMIT.false in
+    rw (product-read c.args.level c.args.ideal c.ranges.level c.ranges.ideal level c.requires)
+    (tt, record { fits = omega (arith, square_le c.args.level c.args.ideal c.ranges.level c.ranges.ideal level c.requires) })
 
-level-le : (c : tie.Else2) → nat_abs c.before.before.args.level ≤ limit
-level-le c =
-    let s = c.before.before in
-    let read = to_z-of_z w32 s.args.level s.ranges.level in
-    in_range s.args.level (rw read at c.before.if1.false) (rw read at c.if2.false)
-
-sub-gap : tie.Need-overflow-sub-gap
-sub-gap c =
-    let s = c.before.before in
-    gap-fits s.args.level s.args.ideal s.ranges.level s.ranges.ideal (level-le c) s.requires
-
-mul-result : tie.Need-overflow-mul-result
-mul-result c =
-    let s = c.before.before in
-    product-fits s.args.level s.args.ideal s.ranges.level s.ranges.ideal (level-le c) s.requires
-
-cast-result : tie.Need-overflow-cast-result
-cast-result c =
-    let s = c.before.before in
-    rw (product-read s.args.level s.args.ideal s.ranges.level s.ranges.ideal (level-le c) s.requires)
-    (tt, record { fits = omega (arith, square_le s.args.level s.args.ideal s.ranges.level s.ranges.ideal (level-le c) s.requires) })
-
-returns-3 : tie.Need-returns-3
-returns-3 c =
-    let s = c.before.before in
-    rw (product-read s.args.level s.args.ideal s.ranges.level s.ranges.ideal (level-le c) s.requires)
-    (square_le s.args.level s.args.ideal s.ranges.level s.ranges.ideal (level-le c) s.requires)
-
-pub part-spec : {M : Type 1} → statement M
-part-spec = tie.close (tie.spec sub-if1 returns returns-2 sub-gap mul-result cast-result returns-3)
+pub returns : goal.returns
+returns c =
+    let level = level-le c.args.level c.ranges.level c.if-level.false c.if-level-gt-LIMIT.false in
+    rw (product-read c.args.level c.args.ideal c.ranges.level c.ranges.ideal level c.requires)
+    (square_le c.args.level c.args.ideal c.ranges.level c.ranges.ideal level c.requires)
