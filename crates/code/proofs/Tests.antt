@@ -11,7 +11,7 @@ use Rattle.rules.specs.Refusals.{largest}
 use Rattle.rules.specs.Word.{unfrozen, message_bits, spread, codeword}
 use Rattle.rules.specs.Answers.{Encoded, encoded}
 use Rattle.rules.specs.Guard.{fewest_ones}
-use Rattle.laws.specs.Code.Matrix.{codeword_longer}
+use Rattle.laws.proofs.Codewords.Matrix.{codeword_longer}
 use Rattle.laws.specs.Code.Message.{spread-lt}
 use Rattle.laws.specs.Guard.LeastBelow.{least_some_at}
 use Rattle.word.specs.Words.{size_of}

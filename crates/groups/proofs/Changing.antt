@@ -12,7 +12,8 @@ use lib.Pow.{pow-lt, pow_mono}
 use Rattle.rules.specs.Word.{codeword}
 use Rattle.rules.specs.Refusals.{largest}
 use Rattle.laws.specs.Numbers.Bits.{power_shifted}
-use Rattle.laws.specs.Code.Matrix.{codeword-zero, codeword_longer}
+use Rattle.laws.specs.Code.Matrix.{codeword-zero}
+use Rattle.laws.proofs.Codewords.Matrix.{codeword_longer}
 use Rattle.laws.specs.Seats.Seats.{seat_index, seat_below}
 use Rattle.laws.specs.Seats.SeatWords.{unseat-zero}
 use Rattle.laws.specs.Seats.Decided.{change_of}

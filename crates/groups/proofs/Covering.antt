@@ -11,7 +11,8 @@ use lib.ListN.{length, get_or}
 use lib.Pow.{pow_mono, pow_pos}
 use Rattle.rules.specs.Refusals.{largest}
 use Rattle.laws.specs.Code.Matrix.{codeword-lt}
-use Rattle.laws.specs.Seats.Copied.{covered_of, covered_first, covered_more}
+use Rattle.laws.specs.Seats.Copied.{covered_of}
+use Rattle.laws.proofs.Seats.Copied.{covered_first, covered_more}
 use Rattle.laws.specs.Seats.Seats.{seat_index}
 use Rattle.laws.specs.Seats.SeatedDown.{groups_blocks}
 use Rattle.word.specs.Words.{Held, word_at}

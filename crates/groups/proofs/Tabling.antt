@@ -18,9 +18,10 @@ use Rattle.laws.specs.Walk.GroupSizes.{groups_all}
 use Rattle.laws.specs.Seats.Seats.{seat_index}
 use Rattle.laws.specs.Seats.SeatWords.{seat, unseat, unseat_below, unseat-lt}
 use Rattle.laws.specs.Seats.SeatedRow.{block_of}
-use Rattle.laws.specs.Seats.SeatedBlocks.{unseat_block}
-use Rattle.laws.specs.Seats.Decided.{shut_of, shut_block}
-use Rattle.laws.specs.Seats.Copied.{shut_is}
+use Rattle.laws.proofs.Seats.SeatedBlocks.{unseat_block}
+use Rattle.laws.specs.Seats.Decided.{shut_of}
+use Rattle.laws.proofs.Seats.Decided.{shut_block}
+use Rattle.laws.proofs.Seats.Copied.{shut_is}
 use Rattle.word.specs.Words.{Held, word_at}
 use Rattle.groups.specs.declared.Tree.{Tree}
 use Rattle.groups.specs.Grouping.{Grouped, Shut}

@@ -4,8 +4,6 @@ pub mod BlankBlocks
 pub mod Blocks
 pub mod Copied
 pub mod Decided
-pub mod FillingNumber
-pub mod SeatGroups
 pub mod SeatSums
 pub mod SeatWords
 pub mod SeatedBlocks

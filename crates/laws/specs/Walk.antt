@@ -10,5 +10,4 @@ pub mod FillingCount
 pub mod Fillings
 pub mod GroupSizes
 pub mod Groups
-pub mod LeastByWalk
 pub mod Patterns

@@ -9,8 +9,8 @@ use Rattle.rules.specs.Refusals.{done}
 use Rattle.rules.specs.Record.{record_bytes}
 use Rattle.rules.specs.Request.{Request, write_order, write_answer, record_of, write_left}
 use Rattle.laws.specs.Answers.Orders.{Passed, passed_done}
-use Rattle.laws.specs.Answers.Requests.{write_right}
-use Rattle.laws.specs.Answers.WrittenRecord.{record_length}
+use Rattle.laws.proofs.Answers.Requests.{write_right}
+use Rattle.laws.proofs.Answers.WrittenRecord.{record_length}
 use Rattle.text.specs.Within.{Within}
 use Rattle.request.specs.Writing.{Wrote}
 use Rattle.request.specs.declared.written.Written.{Written}

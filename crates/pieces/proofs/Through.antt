@@ -7,7 +7,8 @@ use native.Mathlib.Nat.{add-mul}
 use native.Mathlib.Omega.{arith}
 use lib.ListN.{length, take, drop, drop_of_length-le}
 use Rattle.rules.specs.Text.{most_records, written_from}
-use Rattle.laws.specs.Answers.Texts.{written_none, record_end, written_from_lem, written_stops}
+use Rattle.laws.specs.Answers.Texts.{written_none, record_end, written_stops}
+use Rattle.laws.proofs.Answers.Texts.{written_from_lem}
 use Rattle.text.specs.Puts.{Put, put_none, put-length, put_then}
 use Rattle.text.specs.Within.{Within}
 use Rattle.pieces.proofs.Room.{next_fits}

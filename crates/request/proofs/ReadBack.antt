@@ -12,9 +12,13 @@ use Rattle.rules.specs.Record.{record_bytes, read_answer, record_answer}
 use Rattle.rules.specs.Request.{Request, write_order, write_answer, record_of, write_left}
 use Rattle.laws.specs.Answers.OneAnswer.{ShownLeft}
 use Rattle.laws.specs.Answers.Orders.{passed}
-use Rattle.laws.specs.Answers.Requests.{WriteRight, write_right}
-use Rattle.laws.specs.Answers.WrittenRecord.{written_fields, record_length, read_back}
-use Rattle.laws.specs.Answers.Sent.{answer_sent, made-decoded}
+use Rattle.laws.specs.Answers.Requests.{WriteRight}
+use Rattle.laws.proofs.Answers.Requests.{write_right}
+use Rattle.laws.specs.Answers.WrittenRecord.{written_fields}
+use Rattle.laws.proofs.Answers.WrittenRecord.{record_length}
+use Rattle.laws.proofs.Answers.ReadBack.{read_back}
+use Rattle.laws.specs.Answers.Sent.{answer_sent}
+use Rattle.laws.proofs.Answers.Sent.{made-decoded}
 use Rattle.request.specs.Reading.{request_in}
 use Rattle.request.specs.Writing.{written_of, Wrote}
 use Rattle.request.specs.declared.written.Written.{Written}

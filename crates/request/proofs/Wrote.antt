@@ -14,8 +14,10 @@ use Rattle.rules.specs.Record.{record_bytes, record_slots}
 use Rattle.rules.specs.Request.{Request, write_order, write_answer, level_bytes, record_levels, record_of, write_left}
 use Rattle.laws.specs.Numbers.Each.{each_all}
 use Rattle.laws.specs.Answers.Orders.{Passed, passed_done, refused_so}
-use Rattle.laws.specs.Answers.Requests.{WriteRight, write_right}
-use Rattle.laws.specs.Answers.WrittenRecord.{header, levels_length, level_sent, level_zero, record_length}
+use Rattle.laws.specs.Answers.Requests.{WriteRight}
+use Rattle.laws.proofs.Answers.Requests.{write_right}
+use Rattle.laws.specs.Answers.WrittenRecord.{header, levels_length, level_sent, level_zero}
+use Rattle.laws.proofs.Answers.WrittenRecord.{record_length}
 use Rattle.refusal.specs.Number.{refusal_of}
 use Rattle.refusal.specs.declared.Refusal.{Refusal}
 use Rattle.text.specs.Puts.{Put}

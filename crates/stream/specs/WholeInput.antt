@@ -5,7 +5,8 @@ use Rattle.std.proofs.Common.{◌∙◌, arith}
 use Rattle.rules.specs.Record.{record_bytes}
 use Rattle.rules.specs.Text.{each_from, most_records, written_from, text_from}
 use Rattle.rules.specs.Request.{request_bytes, made_from, refusals_from}
-use Rattle.laws.specs.Answers.Pieces.{piece_records, taken_of, pieces_written, whole_written}
+use Rattle.laws.specs.Answers.Pieces.{piece_records, taken_of, pieces_written}
+use Rattle.laws.proofs.Answers.Pieces.{whole_written}
 use Rattle.pieces.specs.Programs.{size_of, size-some, shown_of, said_of}
 use Rattle.pieces.specs.declared.Program.{Program}
 use Rattle.pieces.specs.declared.Program.TheVariants.{Blocks, Make}

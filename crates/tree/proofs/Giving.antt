@@ -15,7 +15,8 @@ use Rattle.rules.specs.Below.{sum_below}
 use Rattle.rules.specs.Refusals.{largest}
 use Rattle.laws.specs.Numbers.Sums.{sum-le, sum-const}
 use Rattle.laws.specs.Rows.SortedRows.{row_cong}
-use Rattle.laws.specs.Distance.Excess.{excess, nearest, excess_greatest, nearest_greatest, excess_one_bit}
+use Rattle.laws.specs.Distance.Excess.{excess, nearest, excess_greatest, excess_one_bit}
+use Rattle.laws.proofs.Distance.Excess.{nearest_greatest}
 use Rattle.word.specs.Words.{Held, word_of}
 use Rattle.word.specs.Tables.{stored_next}
 use Rattle.rows.specs.Adding.{adds, RowsRight}

@@ -15,8 +15,9 @@ use Rattle.laws.specs.Code.Disjoint.{Disjoint, disjoint_longer}
 use Rattle.laws.specs.Rows.SlotsInGroup.{GroupSize, by_size}
 use Rattle.laws.specs.Seats.SeatWords.{seat}
 use Rattle.laws.specs.Seats.SeatedRow.{block_of, filling_of, is_open, branch_of, entry_candidate}
-use Rattle.laws.specs.Seats.Decided.{decided, change_of, Filled, filled}
-use Rattle.laws.specs.Seats.Copied.{change_copied, covered_apart}
+use Rattle.laws.specs.Seats.Decided.{decided, change_of, Filled}
+use Rattle.laws.proofs.Seats.Decided.{filled}
+use Rattle.laws.proofs.Seats.Copied.{change_copied, covered_apart}
 use Rattle.rows.specs.Table.{capacity, entry_at}
 use Rattle.word.specs.Words.{Held, word_at}
 use Rattle.walk.specs.Nodes.{Inside}

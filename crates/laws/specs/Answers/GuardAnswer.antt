@@ -13,13 +13,6 @@ use Rattle.rules.specs.Guard.{guard_of}
 use Rattle.rules.specs.Walk.{walk_visits}
 use Rattle.rules.specs.Refusals.{done}
 use Rattle.rules.specs.Answers.{Decoded, decode_answer}
-use Rattle.laws.specs.Numbers.Sums.{sum_cong}
-use Rattle.laws.specs.Numbers.Each.{each_at}
-use Rattle.laws.specs.Distance.Least.{least_unique}
-use Rattle.laws.specs.Code.Message.{spread-permitted, spread-gather, gather-spread, gather-lt, gather-zero}
-use Rattle.laws.specs.Guard.Margin.{total_moved}
-use Rattle.laws.specs.Guard.SentWord.{below_guard_only, at_guard}
-use Rattle.laws.specs.Answers.LeastAnswer.{Accepted, done_least, accepted_done}
 
 -- the levels that a message is sent as: those that encoding to ideal levels writes
 abbrev pub sent_levels : ℕ → ℕ → ℕ → List ℤ
@@ -35,41 +28,6 @@ pub record IsSent (n mask sent : ℕ) (a : Decoded) : Type 0 where
   pub word : a.d ≡ spread n mask sent
   pub code : a.x ≡ codeword n (spread n mask sent)
 
--- the amount moved is the one that the laws speak of
-moved_in_all_lem : (n mask message : ℕ) (received : List ℤ)
-    → moved_in_all n (sent_levels n mask message) received ≡ total_moved n received (spread n mask message)
-unfolding ideal_levels
-moved_in_all_lem n mask message received =
-    sum_cong (2 ^ n)
-    (λ i l. ap (λ (z : ℤ). nat_abs (level_at received i -ℤ z))
-    (each_at (λ k. ideal (bit (codeword n (spread n mask message)) k)) (pos 0) (2 ^ n) i l))
-
-module _ (n mask guard : ℕ) (has_guard : guard_of n mask ≡ some guard) where
-  -- Below the guard: a finished answer is the message sent.
-  pub below_guard : (message : ℕ) → message < 2 ^ message_bits n mask
-      → (received : List ℤ) → moved_in_all n (sent_levels n mask message) received < guard
-      → (folding allowance : ℕ) (a : Decoded) → decode_answer n received mask folding allowance ≡ done a → IsSent n mask message a
-  below_guard message inside received near folding allowance a finished =
-      let holds = done_least n received mask folding allowance a finished in
-      let same : a.d ≡ spread n mask message =
-      below_guard_only n mask guard (spread n mask message) received has_guard (spread-permitted n mask message)
-      (rw (moved_in_all_lem n mask message received) at near) a.d holds.least
-      in
-      record {
-        message = holds.message ∙ ap (gather n mask) same ∙ gather-spread n mask message inside;
-        word = same;
-        code = holds.codeword ∙ ap (codeword n) same;
-      }
-
-  -- And an answer is finished where refusals 1 to 6 let the input pass and the allowance suffices for the walk.
-  pub below_guard_found : (message : ℕ) → message < 2 ^ message_bits n mask
-      → (received : List ℤ) → moved_in_all n (sent_levels n mask message) received < guard
-      → (folding allowance : ℕ) → Accepted n received mask folding → walk_visits n mask (level_cost received) folding ≤ allowance
-      → (a : Decoded) × (decode_answer n received mask folding allowance ≡ done a) × IsSent n mask message a
-  below_guard_found message inside received near folding allowance given enough =
-      let r = accepted_done n received mask folding allowance given enough in
-      (r.0, r.1, below_guard message inside received near folding allowance r.0 r.1)
-
 -- A message, and a block of levels in range moved from it by the guard in all, whose least word is word 0, that of another message.
 pub record LeastElsewhere (n mask guard : ℕ) : Type 0 where
   pub message : ℕ
@@ -81,22 +39,6 @@ pub record LeastElsewhere (n mask guard : ℕ) : Type 0 where
   pub moved : moved_in_all n (sent_levels n mask message) received ≡ guard
   pub least : Least n mask (level_cost received) 0
 
--- At the guard: every mask that has one has such a message and such a block.
-pub least_elsewhere : (n mask guard : ℕ) → guard_of n mask ≡ some guard → LeastElsewhere n mask guard
-least_elsewhere n mask guard has_guard =
-    let r = at_guard n mask guard has_guard in
-    let word : spread n mask (gather n mask r.sent) ≡ r.sent = spread-gather n mask r.sent r.allowed in
-    record {
-      message = gather n mask r.sent;
-      inside = gather-lt n mask r.sent;
-      other = λ e. r.other (e ∙ sym (gather-zero n mask));
-      received = r.levels;
-      long = r.long;
-      ranged = r.ranged;
-      moved = moved_in_all_lem n mask (gather n mask r.sent) r.levels ∙ ap (total_moved n r.levels) word ∙ r.moved;
-      least = r.least;
-    }
-
 -- Such a block is answered with message 0, which was not sent: under every folding that is not refused, with every allowance that
 -- suffices for the walk.
 pub record LostAtGuard (n mask guard : ℕ) : Type 0 where
@@ -104,29 +46,3 @@ pub record LostAtGuard (n mask guard : ℕ) : Type 0 where
   pub lost : (folding allowance : ℕ) → folding < 2 ^ n → ones folding ≤ 3
       → walk_visits n mask (level_cost block.received) folding ≤ allowance
       → (a : Decoded) × (decode_answer n block.received mask folding allowance ≡ done a) × (a.message ≡ 0)
-
--- And so it is for every mask that has a guard and that decoding does not refuse.
-pub at_the_guard : (n mask guard : ℕ) → 1 ≤ n → n ≤ 6 → mask < 2 ^ (2 ^ n) → guard_of n mask ≡ some guard → LostAtGuard n mask guard
-at_the_guard n mask guard some_slots small fits has_guard =
-    let elsewhere = least_elsewhere n mask guard has_guard in
-    record {
-      block = elsewhere;
-      lost = λ folding allowance folding_fits few. answered elsewhere folding allowance
-          (record {
-            some_slots = some_slots;
-            small = small;
-            long = elsewhere.long;
-            mask_fits = fits;
-            folding_fits = folding_fits;
-            few = few;
-            ranged = elsewhere.ranged;
-          });
-    }
-  where
-    answered : (block : LeastElsewhere n mask guard) (folding allowance : ℕ) → Accepted n block.received mask folding
-        → walk_visits n mask (level_cost block.received) folding ≤ allowance
-        → (a : Decoded) × (decode_answer n block.received mask folding allowance ≡ done a) × (a.message ≡ 0)
-    answered block folding allowance given enough =
-        let r = accepted_done n block.received mask folding allowance given enough in
-        let zero = least_unique n mask (level_cost block.received) r.0.d 0 r.2.least block.least in
-        (r.0, r.1, r.2.message ∙ ap (gather n mask) zero ∙ gather-zero n mask)

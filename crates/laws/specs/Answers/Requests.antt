@@ -8,56 +8,18 @@ use Rattle.rules.specs.Word.{message_bits}
 use Rattle.rules.specs.Refusals.{Refusal, done, answer, refuse, wrong_size, wrong_mask, wrong_message}
 use Rattle.rules.specs.Orders.{code_order, folding_order, folded_order}
 use Rattle.rules.specs.Request.{Request, request_of, short_request, request_not_zero, request_order, request_answer, write_order}
-use Rattle.laws.specs.Answers.Orders.{Passed, passed, parts, answer_again, not_refused, FoldedRight, folded_right}
+use Rattle.laws.specs.Answers.Orders.{FoldedRight, Passed}
 
 -- 13, 1, 12: the first part of reading a request
 abbrev pub request_bytes_order : List ℕ → List (Option Refusal)
 request_bytes_order bytes = short_request bytes ∷ wrong_size (request_of bytes).n ∷ request_not_zero bytes ∷ []
-
--- a request is refused for the bytes, then as its record is: 13, 1, 12 and then 1, 3, 4, 5, 9
-pub request_parts : {A : Type 0} (bytes : List ℕ) (a : A)
-    → answer (request_order bytes) a ≡ answer (request_bytes_order bytes ++ write_order (request_of bytes)) a
-unfolding request_order write_order folded_order code_order
-request_parts bytes a =
-    let r = request_of bytes in
-    sym
-    (answer_again (short_request bytes ∷ []) (wrong_size r.n) (request_not_zero bytes ∷ [])
-    (wrong_mask r.n r.mask ∷ folding_order r.n r.folding ++ wrong_message r.n r.mask r.message ∷ []) a)
 
 -- a right code and folding, and a message that fits
 pub record WriteRight (r : Request) : Type 0 where
   pub folded : FoldedRight r.n r.mask r.folding
   pub message_fits : r.message < 2 ^ message_bits r.n r.mask
 
--- 1, 3, 4, 5, 9 let exactly these pass
-pub write_right : (r : Request) → Passed (write_order r) ↔ WriteRight r
-unfolding write_order
-write_right r =
-    let tests = folded_order r.n r.mask r.folding in
-    let last = wrong_message r.n r.mask r.message ∷ [] in (
-      λ p.
-          let both = (parts tests last).0 p in
-          record {
-            folded = (folded_right r.n r.mask r.folding).0 both.0;
-            message_fits = leb-false _ _ (not_refused 9 _ both.1.0);
-          },
-      λ right.
-          (parts tests last).1 (
-            (folded_right r.n r.mask r.folding).1 right.folded,
-            (ap (refuse 9) (lt-leb _ _ right.message_fits), tt),
-          ),
-    )
-
 -- a request that is taken: the fields are its bytes', and its record can be written
 pub record Asked (bytes : List ℕ) (r : Request) : Type 0 where
   pub fields : request_of bytes ≡ r
   pub written : Passed (write_order r)
-
--- no others are taken
-pub request_right : (bytes : List ℕ) (r : Request) → request_answer bytes ≡ done r → Asked bytes r
-unfolding request_answer
-request_right bytes r e =
-    let q = request_of bytes in
-    let read = passed (request_bytes_order bytes ++ write_order q) q r (sym (request_parts bytes q) ∙ e) in
-    let own : Asked bytes q = record { fields = refl; written = ((parts (request_bytes_order bytes) (write_order q)).0 read.0).1 } in
-    rw read.1 at own

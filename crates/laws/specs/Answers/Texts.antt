@@ -49,39 +49,9 @@ module _ (size : ℕ) where
         let more : length (x ∷ a) ≡ whole * size + size = e ∙ suc-mul whole size in
         omega (arith, records_count whole most (drop size (x ∷ a)) (rw length-drop (omega (arith, more))))
 
--- ---- a record that begins at a place
-
 -- where it ends: after its bytes, or where the bytes end
 abbrev pub record_end : ℕ → List ℕ → ℕ → ℕ
 record_end size bytes start = min (start + size) (length bytes)
-
-module _ (size : ℕ) (bytes : List ℕ) (start : ℕ) where
-  -- the bytes after it
-  end_drop : drop (record_end size bytes start) bytes ≡ drop size (drop start bytes)
-  end_drop = go (dec_le (start + size) (length bytes)) ∙ sym (drop-drop size start bytes)
-    where
-      go : Dec (start + size ≤ length bytes) → drop (record_end size bytes start) bytes ≡ drop (start + size) bytes
-      go (yes l) =
-          let e : record_end size bytes start ≡ start + size = omega arith in
-          rw e
-      go (no l) =
-          drop_of_length-le bytes {i = record_end size bytes start} (omega arith)
-          ∙ sym (drop_of_length-le bytes {i = start + size} (omega arith))
-
-  -- the bytes of it
-  end_take : start ≤ length bytes → take (record_end size bytes start - start) (drop start bytes) ≡ take size (drop start bytes)
-  end_take inside = go (dec_le (start + size) (length bytes))
-    where
-      go : Dec (start + size ≤ length bytes) → take (record_end size bytes start - start) (drop start bytes) ≡ take size (drop start bytes)
-      go (yes l) =
-          let e : record_end size bytes start - start ≡ size = omega arith in
-          rw e
-      go (no l) =
-          let short : length (drop start bytes) ≡ length bytes - start = length-drop start bytes in
-          take_all (record_end size bytes start - start) (drop start bytes) (omega (arith, short))
-          ∙ sym (take_all size (drop start bytes) (omega (arith, short)))
-
--- ---- what is written
 
 -- what is written for records that are followed by others
 each_append : (written : ℕ → List ℕ → List ℕ) (number : ℕ) (rs ss : List (List ℕ))
@@ -104,24 +74,6 @@ module _ (size : ℕ) (written : ℕ → List ℕ → List ℕ) where
   pub written_none : (number : ℕ) → written_from size written number [] ≡ []
   unfolding written_from each_from
   written_none number = rw (records_none size (most_records - number))
-
-  -- what is written for the first record, then for the bytes after it
-  written_step : (number : ℕ) (bytes : List ℕ) → number < most_records → 0 < length bytes
-      → written_from size written number bytes ≡ written number (take size bytes) ++ written_from size written (suc number) (drop size bytes)
-  unfolding written_from records_up_to each_from
-  written_step number [] l some = absurd (omega arith)
-  written_step number (x ∷ xs) l some =
-      let e : most_records - number ≡ suc (most_records - suc number) = omega arith in
-      rw e
-
-  -- from a place on: what is written for the record that begins there, then from its end on
-  pub written_from_lem : (number start end : ℕ) (bytes : List ℕ) → end ≡ record_end size bytes start → number < most_records → start < length bytes
-      → written_from size written number (drop start bytes)
-      ≡ written number (take (end - start) (drop start bytes)) ++ written_from size written (number + 1) (drop end bytes)
-  written_from_lem number start end bytes e few some =
-      let left : length (drop start bytes) ≡ length bytes - start = length-drop start bytes in
-      rw (e, end_take size bytes start (omega arith), end_drop size bytes start, add-one number)
-      (written_step number (drop start bytes) few (omega (arith, left)))
 
   -- any cutting of bytes after whole records gives the same
   pub written_append : 0 < size → (number whole : ℕ) (a b : List ℕ) → length a ≡ whole * size

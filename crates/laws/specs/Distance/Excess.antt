@@ -7,9 +7,7 @@ use Rattle.std.proofs.Math.Decide.{dec_le}
 use Rattle.rules.specs.Below.{sum_below}
 use Rattle.rules.specs.Word.{bit}
 use Rattle.rules.specs.Level.{limit, in_range, level_at, gap, slot_cost, level_cost, distance}
-use Rattle.laws.specs.Numbers.Sums.{sum_cong, sum-add, sum-mul}
 use Rattle.laws.specs.Numbers.Apart.{abs_sub}
-use Rattle.laws.specs.Distance.GreatestDistance.{slot_greatest}
 
 -- how far a magnitude is from 256, that of the ideal levels
 abbrev pub beside : ℕ → ℕ
@@ -66,30 +64,12 @@ unfolding excess
 one_nearer (pos m) = omega arith
 one_nearer (negsuc m) = omega arith
 
--- the nearer bit's cost is the less of both
-pub nearest_least : (level : ℤ) → nearest level ≡ min (slot_cost level 0) (slot_cost level 1)
-nearest_least level = rw (cost_split level 0, cost_split level 1) (omega (arith, one_nearer level))
-
 -- in range, the excess is at most the limit
 pub excess_greatest : (level : ℤ) (b : ℕ) → in_range level ≡ true → excess level b ≤ limit
 excess_greatest level b h = le_trans (excess-le level b) (leb-true (nat_abs level) limit h)
-
--- in range, the nearer bit costs no more than any bit
-pub nearest_greatest : (level : ℤ) → in_range level ≡ true → nearest level ≤ (limit + 256) * (limit + 256)
-nearest_greatest level h = omega (arith, cost_split level 0, slot_greatest level 0 h)
 
 -- every bit that is not 0 is the bit 1
 pub excess_one_bit : (level : ℤ) (b : ℕ) → excess level (suc b) ≡ excess level 1
 unfolding excess
 excess_one_bit (pos m) b = refl
 excess_one_bit (negsuc m) b = refl
-
--- a word's distance: the nearer bits' costs, which every word has, and 1024 times its excess
-pub distance_split : (n : ℕ) (levels : List ℤ) (x : ℕ)
-    → distance n (level_cost levels) x
-    ≡ sum_below (2 ^ n) (λ i. nearest (level_at levels i)) + 1024 * sum_below (2 ^ n) (λ i. excess (level_at levels i) (bit x i))
-unfolding distance
-distance_split n levels x =
-    sum_cong (2 ^ n) (λ i l. cost_split (level_at levels i) (bit x i))
-    ∙ sum-add (2 ^ n) (λ i. nearest (level_at levels i)) (λ i. 1024 * excess (level_at levels i) (bit x i))
-    ∙ ap (λ (s : ℕ). sum_below (2 ^ n) (λ i. nearest (level_at levels i)) + s) (sum-mul (2 ^ n) 1024 (λ i. excess (level_at levels i) (bit x i)))

@@ -8,8 +8,6 @@ use Rattle.std.proofs.Math.IntN.{+ℤ_idr, +ℤ_assoc}
 use Rattle.rules.specs.Word.{bit, codeword}
 use Rattle.rules.specs.Below.{sum_below}
 use Rattle.rules.specs.Level.{level_at, gap, slot_cost, level_cost, distance, word_distance}
-use Rattle.laws.specs.Numbers.Sums.{sum_cong}
-use Rattle.laws.specs.Numbers.Bits.{bit_lt_two}
 
 -- 512 · (y - b) at y = (level + 256) / 512, without its sign
 abbrev pub scaled : ℤ → ℕ → ℕ
@@ -18,25 +16,3 @@ scaled level b = nat_abs ((level +ℤ pos 256) -ℤ pos (512 * b))
 -- 512² · |y - x|², 000's squared norm at the word x: the sum over slots of (512 · (y_i - x_i))²
 unfoldable pub scaled_norm : ℕ → List ℤ → ℕ → ℕ
 scaled_norm n levels x = sum_below (2 ^ n) (λ i. scaled (level_at levels i) (bit x i) * scaled (level_at levels i) (bit x i))
-
--- the level less a bit's ideal level is 512 · (y - b)
-pub gap-scaled : (level : ℤ) (b : ℕ) → b < 2 → gap level b ≡ scaled level b
-gap-scaled level zero l = ap nat_abs (sym (+ℤ_idr (level +ℤ pos 256)))
-gap-scaled level (suc zero) l = ap nat_abs (sym (+ℤ_assoc level (pos 256) (negsuc 511)))
-gap-scaled level (suc (suc b)) l = absurd (omega arith)
-
--- so the cost of a slot is that square
-pub cost_scaled : (level : ℤ) (b : ℕ) → b < 2 → slot_cost level b ≡ scaled level b * scaled level b
-unfolding slot_cost
-cost_scaled level b l = ap (λ (g : ℕ). g * g) (gap-scaled level b l)
-
--- and the distance is 512² times the squared norm
-pub distance_norm : (n : ℕ) (levels : List ℤ) (x : ℕ) → distance n (level_cost levels) x ≡ scaled_norm n levels x
-unfolding distance scaled_norm
-distance_norm n levels x = sum_cong (2 ^ n) (λ i l. cost_scaled (level_at levels i) (bit x i) (bit_lt_two x i))
-
--- a word is no farther than another exactly when its norm is no greater
-pub norm_order : (n : ℕ) (levels : List ℤ) (d e : ℕ)
-    → (word_distance n (level_cost levels) d ≤ word_distance n (level_cost levels) e)
-    ↔ (scaled_norm n levels (codeword n d) ≤ scaled_norm n levels (codeword n e))
-norm_order n levels d e = rw (distance_norm n levels (codeword n d), distance_norm n levels (codeword n e)) (λ h. h, λ h. h)

@@ -33,26 +33,6 @@ pub number_behind : (before bytes : List ℕ) (place count : ℕ)
     → number_at (before ++ bytes) (length before + place) count ≡ number_at bytes place count
 number_behind before bytes place count = rw (drop-append-add before bytes place)
 
--- a number written at a place, read there
-pub field_at : (before after : List ℕ) (place count v : ℕ) → length before ≡ place → v < 256 ^ count
-    → number_at (before ++ bytes_of count v ++ after) place count ≡ v
-field_at before after place count v at l =
-    number_before (before ++ bytes_of count v) after place count (rw (length-append, at, bytes-length count v) (le_refl (place + count)))
-    ∙ rw (drop_at before (bytes_of count v) place at, take_all count (bytes_of count v) (le_of_eq (bytes-length count v))) (field_back count v l)
-
 -- every element of a list is a byte
 abbrev pub Bytes : List ℕ → Type 0
 Bytes bytes = (i : ℕ) → i < length bytes → get_or bytes i 0 < 256
-
--- what is read from at most so many bytes is small
-taken_small : (count : ℕ) (bytes : List ℕ) → Bytes bytes → little_endian (take count bytes) < 256 ^ count
-unfolding little_endian
-taken_small zero bytes small = omega arith
-taken_small (suc count) [] small = omega (arith, pow-succ' 256 count, taken_small count [] small)
-taken_small (suc count) (b ∷ bytes) small =
-    omega (arith, pow-succ' 256 count, small 0 (omega arith), taken_small count bytes (λ i l. small (suc i) (omega arith)))
-
--- so is what is read from a place on
-pub number_at_small : (bytes : List ℕ) (place count : ℕ) → Bytes bytes → number_at bytes place count < 256 ^ count
-number_at_small bytes place count small =
-    taken_small count (drop place bytes) (λ i l. rw (get_or-drop place bytes i 0) (small (place + i) (omega (arith, length-drop place bytes))))

@@ -8,10 +8,9 @@ use Rattle.std.proofs.Math.Arith.{digits_lt}
 use Rattle.std.specs.Int.Bits.{bit_xor, xor_zero_l, xor_zero_r}
 use Rattle.std.proofs.lemmas.Nat.{xor_comm, xor_lt, xor_mod, xor_shr}
 use Rattle.rules.specs.Word.{bit, covers, code_bit, codeword}
+use Rattle.laws.specs.Code.Matrix.{codeword-bit, codeword-zero}
+use Rattle.laws.specs.Numbers.Bits.{bit-zero, bit_beyond, covers-le, small_of_bits}
 use Rattle.laws.specs.Numbers.Sums.{sum_cong}
-use Rattle.laws.specs.Numbers.Bits.{bit-zero, bit_beyond, bit-div, bit_ext_below, xor_twice, covers-le, covers_refl, small_of_bits}
-use Rattle.laws.specs.Code.Matrix.{codeword-lt, codeword-bit, codeword-xor, codeword-zero, codeword_twice}
-use Rattle.laws.specs.Seats.Blocks.{block_same, block_bit, block_below, block_code_bit, block_decided}
 use Rattle.laws.specs.Seats.SeatedRow.{block_of}
 
 -- a word without the bits of its blocks below k
@@ -19,7 +18,7 @@ abbrev pub above_of : ℕ → ℕ → ℕ → ℕ
 above_of s k w = w / 2 ^ (k * s) * 2 ^ (k * s)
 
 -- a bit of a codeword goes by the word's bits from there on
-code_from : (n a b i : ℕ) → ((j : ℕ) → i ≤ j → bit a j ≡ bit b j) → code_bit n a i ≡ code_bit n b i
+pub code_from : (n a b i : ℕ) → ((j : ℕ) → i ≤ j → bit a j ≡ bit b j) → code_bit n a i ≡ code_bit n b i
 unfolding code_bit
 code_from n a b i h = ap (λ (x : ℕ). x % 2) (sum_cong (2 ^ n) (λ j l. go j (covers i j) refl))
   where
@@ -33,9 +32,6 @@ code_within n m d l = small_of_bits m _ (λ i g.
     codeword-bit n d i ∙ code_from n d 0 i (λ j h. bit_beyond l (le_trans g h) ∙ sym (bit-zero j))
     ∙ sym (codeword-bit n 0 i) ∙ rw (codeword-zero n) (bit-zero i))
 
-above_same : (s k w i : ℕ) → k * s ≤ i → bit (above_of s k w) i ≡ bit w i
-above_same s k w i l = let r = le_dest l in rw (← r.1) (block_same s k _ r.0 ∙ bit-div w (k * s) r.0)
-
 -- block k apart from those above it
 pub above_split : (s k w : ℕ) → above_of s k w ≡ above_of s (suc k) w + block_of s k w * 2 ^ (k * s)
 above_split s k w =
@@ -46,42 +42,10 @@ above_split s k w =
     q : ℕ
     q = w / 2 ^ (k * s)
 
-same_of_xor : (a b : ℕ) → bit_xor a b ≡ 0 → a ≡ b
-same_of_xor a b e = sym (xor_twice a b) ∙ ap (λ (x : ℕ). bit_xor x b) e ∙ xor_zero_l b
-
 module _ (n f k v : ℕ) (fits : f ≤ n) (hk : k < 2 ^ (n - f)) (clear : (i : ℕ) → i < suc k * 2 ^ f → bit (codeword n v) i ≡ 0) where
-  abbrev forced : ℕ
-  forced = block_of (2 ^ f) k (codeword n (above_of (2 ^ f) (suc k) v))
-
-  abbrev own : ℕ
-  own = block_of (2 ^ f) k v
-
-  own_lt : own < 2 ^ (2 ^ f)
-  own_lt = mod-lt _ (pow_pos (2 ^ f))
-
-  -- the pattern that the blocks above force is the codeword of block k
-  forced_is : forced ≡ codeword f own
-  forced_is = same_of_xor _ _ (bit_ext_below (2 ^ f) (xor_lt (2 ^ f) _ _ (mod-lt _ (pow_pos (2 ^ f))) (codeword-lt f own)) (pow_pos (2 ^ f)) (λ t l.
-      sym (block_decided n f k fits hk (above_of (2 ^ f) (suc k) v) own (block_below (2 ^ f) (suc k) _) own_lt t l)
-      ∙ ap (λ (x : ℕ). code_bit n x (k * 2 ^ f + t)) (sym (above_split (2 ^ f) k v))
-      ∙ code_from n _ v (k * 2 ^ f + t) (λ j g. above_same (2 ^ f) k v j (omega arith))
-      ∙ sym (codeword-bit n v (k * 2 ^ f + t)) ∙ clear (k * 2 ^ f + t) (digits_lt (lt-suc_self k) l) ∙ sym (bit-zero t)))
-
   module _ (u : ℕ) (hu : u < 2 ^ (2 ^ f)) where
-    abbrev change : ℕ
+    abbrev pub change : ℕ
     change = codeword n (u * 2 ^ (k * 2 ^ f))
-
-    change_block : block_of (2 ^ f) k change ≡ codeword f u
-    change_block = bit_ext_below (2 ^ f) (mod-lt _ (pow_pos (2 ^ f))) (codeword-lt f u) (λ t l.
-        block_bit (2 ^ f) k change t l ∙ codeword-bit n _ (k * 2 ^ f + t) ∙ block_code_bit n f k fits hk u hu k t l
-        ∙ rw (covers_refl k) (sym (codeword-bit f u t)))
-
-    -- a pattern of block k makes it the word of the pattern and the forced one together
-    pub block_changed : block_of (2 ^ f) k (bit_xor v (codeword n (u * 2 ^ (k * 2 ^ f))))
-        ≡ codeword f (bit_xor u (block_of (2 ^ f) k (codeword n (above_of (2 ^ f) (suc k) v))))
-    block_changed =
-        ap (λ (x : ℕ). x % 2 ^ (2 ^ f)) (xor_shr v change (k * 2 ^ f)) ∙ xor_mod _ _ (2 ^ f) ∙ ap (bit_xor own) change_block ∙ xor_comm own (codeword f u)
-        ∙ ap (bit_xor (codeword f u)) (sym (ap (codeword f) forced_is ∙ codeword_twice f own own_lt)) ∙ sym (codeword-xor f u forced)
 
     -- and leaves the blocks above
     pub above_unchanged : above_of (2 ^ f) (suc k) (bit_xor v (codeword n (u * 2 ^ (k * 2 ^ f)))) ≡ above_of (2 ^ f) (suc k) v

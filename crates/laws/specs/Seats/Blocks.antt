@@ -11,12 +11,12 @@ use Rattle.std.proofs.Math.Arith.{digits_lt}
 use Rattle.std.specs.Int.Bits.{bit_xor, xor_disjoint}
 use Rattle.rules.specs.Below.{sum_below}
 use Rattle.rules.specs.Word.{bit, covers, code_bit, codeword}
-use Rattle.laws.specs.Numbers.Sums.{sum_cong, sum-zero, sum_split, sum-mul, sum-single}
-use Rattle.laws.specs.Numbers.Bits.{bit-zero, bit_beyond, bit_low, bit_high, bit-mod, bit-div, bit-and, bit-xor, bit_ext, covers_refl, covers_block}
-use Rattle.laws.specs.Code.Matrix.{codeword-bit, code_bit_xor, codeword_one}
+use Rattle.laws.specs.Code.Matrix.{code_bit_xor, codeword-bit}
+use Rattle.laws.specs.Numbers.Bits.{bit-and, bit-div, bit-mod, bit-xor, bit-zero, bit_beyond, bit_ext, bit_high, bit_low, covers_block, covers_refl}
+use Rattle.laws.specs.Numbers.Sums.{sum-single, sum-zero, sum_cong, sum_split}
 
 -- a sum block by block
-sum_blocks : (L s : ℕ) (g : ℕ → ℕ) → sum_below (L * s) g ≡ sum_below L (λ a. sum_below s (λ r. g (a * s + r)))
+pub sum_blocks : (L s : ℕ) (g : ℕ → ℕ) → sum_below (L * s) g ≡ sum_below L (λ a. sum_below s (λ r. g (a * s + r)))
 unfolding sum_below
 sum_blocks zero s g = rw (zero-mul s)
 sum_blocks (suc L) s g = rw (suc-mul L s, sum_split (L * s) s g, sum_blocks L s g)
@@ -46,7 +46,7 @@ block_other s k v b t hv ht n = go (dec_lt b k)
     go (no g) = block_above s k v (b * s + t) hv (omega (arith, mul-le-mul_right {m = suc k} {n = b} s (omega arith)))
 
 module _ (n f k : ℕ) (fits : f ≤ n) (hk : k < 2 ^ (n - f)) where
-  all_blocks : 2 ^ n ≡ 2 ^ (n - f) * 2 ^ f
+  pub all_blocks : 2 ^ n ≡ 2 ^ (n - f) * 2 ^ f
   all_blocks = ap (λ (x : ℕ). 2 ^ x) (sym (sub-add_cancel fits)) ∙ pow-add 2 (n - f) f
 
   -- the codeword of a block, bit by bit: the block's own at each block that k covers
@@ -66,32 +66,6 @@ module _ (n f k : ℕ) (fits : f ≤ n) (hk : k < 2 ^ (n - f)) where
       own : (c : Bool) → sum_below (2 ^ f) (λ t. cond (c && covers r t) (bit v t) 0) % 2 ≡ cond c (code_bit f v r) 0
       own true = refl
       own false = ap (λ (x : ℕ). x % 2) (sum-zero (2 ^ f) (λ t ht. refl))
-
-  -- a one at the start of each block that k covers
-  copies : ℕ
-  copies = sum_below (2 ^ (n - f)) (λ a. cond (covers a k) (2 ^ (a * 2 ^ f)) 0)
-
-  copied : (v : ℕ) → v < 2 ^ (2 ^ f) → codeword n (v * 2 ^ (k * 2 ^ f)) ≡ codeword f v * copies
-  unfolding codeword copies
-  copied v hv = rw (all_blocks, sum_blocks) (sum_cong (2 ^ (n - f)) (λ a _. block a) ∙ sum-mul (2 ^ (n - f)) (codeword f v) _)
-    where
-      own : (a : ℕ) (c : Bool) → sum_below (2 ^ f) (λ r. cond c (code_bit f v r) 0 * (2 ^ (a * 2 ^ f) * 2 ^ r)) ≡ codeword f v * cond c (2 ^ (a * 2 ^ f)) 0
-      own a true =
-          sum_cong (2 ^ f) (λ r _. mul_left_comm (code_bit f v r) (2 ^ (a * 2 ^ f)) (2 ^ r)) ∙ sum-mul (2 ^ f) (2 ^ (a * 2 ^ f)) _ ∙ mul_comm _ (codeword f v)
-      own a false = sum-zero (2 ^ f) (λ r _. zero-mul _) ∙ sym (mul-zero (codeword f v))
-
-      block : (a : ℕ) → sum_below (2 ^ f) (λ r. code_bit n (v * 2 ^ (k * 2 ^ f)) (a * 2 ^ f + r) * 2 ^ (a * 2 ^ f + r)) ≡ codeword f v * cond (covers a k) (2 ^ (a * 2 ^ f)) 0
-      block a = sum_cong (2 ^ f) (λ r hr. ap₂ ◌*◌ (block_code_bit v hv a r hr) (pow-add 2 (a * 2 ^ f) r)) ∙ own a (covers a k)
-
-  -- the codeword of a block's start: a one at the start of each block that k covers
-  pub block_start : codeword n (2 ^ (k * 2 ^ f)) ≡ sum_below (2 ^ (n - f)) (λ a. cond (covers a k) (2 ^ (a * 2 ^ f)) 0)
-  unfolding copies
-  block_start = ap (codeword n) (sym (one-mul _)) ∙ copied 1 (pow-lt (pow_pos f)) ∙ rw (codeword_one f) (one-mul copies)
-
-  -- the codeword of a block: its own codeword at each block that k covers
-  pub block_code : (v : ℕ) → v < 2 ^ (2 ^ f) → codeword n (v * 2 ^ (k * 2 ^ f)) ≡ codeword f v * codeword n (2 ^ (k * 2 ^ f))
-  unfolding copies
-  block_code v hv = copied v hv ∙ ap (λ (x : ℕ). codeword f v * x) (sym block_start)
 
   module _ (w v : ℕ) (clear : (i : ℕ) → i < suc k * 2 ^ f → bit w i ≡ 0) (hv : v < 2 ^ (2 ^ f)) where
     -- block k is added to a word that has no ones there or below

@@ -7,20 +7,14 @@ use Rattle.std.specs.Int.Count.{ones}
 use Rattle.rules.specs.Word.{bit}
 use Rattle.rules.specs.Folding.{groups}
 use Rattle.laws.specs.Numbers.Bits.{bit_lt_two}
-use Rattle.laws.specs.Walk.GroupSizes.{groups_all}
-use Rattle.laws.specs.Seats.SeatWords.{unseat, unseat-add}
 use Rattle.laws.specs.Seats.Blocks.{block_above}
+use Rattle.laws.specs.Seats.SeatWords.{unseat, unseat-add}
 
 module _ (n F : ℕ) (fits : F < 2 ^ n) where
   -- the groups are the blocks of 2 ^ ones F seats
   pub groups_blocks : groups n F ≡ 2 ^ (n - ones F)
   groups_blocks =
       ap (λ (x : ℕ). 2 ^ x / 2 ^ ones F) (sym (sub-add_cancel (ones-le n F fits))) ∙ rw (pow-add 2 (n - ones F) (ones F)) (shl-shr (2 ^ (n - ones F)) (ones F))
-
-  -- block k has 2 ^ n bits at most
-  pub block_small : (k v : ℕ) → k < groups n F → v < 2 ^ (2 ^ ones F) → v * 2 ^ (k * 2 ^ ones F) < 2 ^ (2 ^ n)
-  block_small k v hk hv = lt_of_lt_of_le (shl_lt (2 ^ ones F) (k * 2 ^ ones F) hv)
-      (pow_mono (omega (arith, groups_all n F fits, suc-mul k (2 ^ ones F), mul-le-mul_right (2 ^ ones F) hk)))
 
 -- a block is added to a word with no ones there or below: in index order they are added too
 pub seated_down : (n F k w v : ℕ) → ((i : ℕ) → i < suc k * 2 ^ ones F → bit w i ≡ 0) → v < 2 ^ (2 ^ ones F)

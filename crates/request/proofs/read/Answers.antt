@@ -11,7 +11,7 @@ use Rattle.rules.specs.Refusals.{Refusal, answer, refuse, is_wrong_size}
 use Rattle.rules.specs.Record.{number_at}
 use Rattle.rules.specs.Request.{Request, request_bytes, request_of, request_answer, write_order}
 use Rattle.laws.specs.Answers.Orders.{passed, passed_done, refused_so}
-use Rattle.laws.specs.Answers.Requests.{request_parts}
+use Rattle.laws.proofs.Answers.Requests.{request_parts}
 use Rattle.word.specs.Words.{word_of}
 use Rattle.code.specs.Reading.{encoded_of}
 use borrow.Author.Rules.{rules}

@@ -14,7 +14,8 @@ use Rattle.rules.specs.Answers as rules
 use Rattle.laws.specs.Answers.OneAnswer.{Shown}
 use Rattle.word.specs.Words.{word_of}
 use Rattle.tree.specs.Reading.{decoded_of, answer_of}
-use Rattle.laws.specs.Answers.GuardAnswer.{sent_levels, moved_in_all, below_guard, LostAtGuard}
+use Rattle.laws.specs.Answers.GuardAnswer.{sent_levels, moved_in_all, LostAtGuard}
+use Rattle.laws.proofs.Answers.GuardAnswer.{below_guard}
 use Rattle.tree.specs.Unique.{is_found}
 use Rattle.tree.specs.declared.Answer as answer
 use Rattle.tree.specs.declared.Decoded as decoded

@@ -15,10 +15,10 @@ use Rattle.rules.specs.Folding as rules
 use Rattle.rules.specs.Walk.{fillings}
 use Rattle.rules.specs.Refusals.{is_empty}
 use Rattle.laws.specs.Numbers.Sums.{none_of, some_of}
-use Rattle.laws.specs.Seats.FillingNumber.{group-fillings}
+use Rattle.laws.proofs.Seats.FillingNumber.{group-fillings}
 use Rattle.laws.specs.Seats.SeatedRow.{block_of}
 use Rattle.laws.specs.Seats.SeatWords.{seat}
-use Rattle.laws.specs.Seats.Copied.{shut-ones}
+use Rattle.laws.proofs.Seats.Copied.{shut-ones}
 use Rattle.word.specs.Words.{Held, word_at}
 use Rattle.groups.specs.declared.Tree.{Tree}
 use Rattle.groups.specs.Grouping.{Grouped, Shut}

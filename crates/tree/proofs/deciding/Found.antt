@@ -15,7 +15,7 @@ use Rattle.rules.specs.Walk.{State, keep_best, walk_visits}
 use Rattle.rules.specs.Refusals.{refused, done, refuse_at, largest}
 use Rattle.rules.specs.Answers as rules
 use Rattle.laws.specs.Distance.Least.{least_word_least}
-use Rattle.laws.specs.Code.Matrix.{codeword_longer}
+use Rattle.laws.proofs.Codewords.Matrix.{codeword_longer}
 use Rattle.laws.specs.Code.Permitted.{permitted-lt}
 use Rattle.word.specs.Words.{size_of, Held, word_of}
 use Rattle.walk.specs.States.{kept_of, running_of, state_of}

@@ -25,7 +25,8 @@ use Rattle.laws.specs.Distance.Excess.{excess, nearest, cost_split}
 use Rattle.laws.specs.Seats.Seats.{seat_index, seat_below}
 use Rattle.laws.specs.Seats.SeatWords.{seat}
 use Rattle.laws.specs.Seats.SeatedRow.{block_of, branch_of, entry_candidates}
-use Rattle.laws.specs.Seats.SeatedWalk.{seated_candidates, seated_least_in}
+use Rattle.laws.specs.Seats.SeatedWalk.{seated_candidates}
+use Rattle.laws.proofs.Seats.SeatedWalk.{seated_least_in}
 use Rattle.laws.specs.Numbers.SortedLists.{mem_get_d}
 use Rattle.laws.specs.Rows.SortedRows.{row_of, row-length, row-at, row_cong, entry_parts}
 use Rattle.laws.specs.Walk.Allowance.{walk_in, walk_cong}

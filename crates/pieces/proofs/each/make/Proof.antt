@@ -1,6 +1,6 @@
 -- `pieces::each::make` meets its contract.
 use mathlib.Core.Path.{sym, ◌∙◌, ap}
-use Rattle.laws.specs.Answers.Requests.{request_right}
+use Rattle.laws.proofs.Answers.Requests.{request_right}
 use Rattle.text.specs.Puts.{put_none}
 use Rattle.request.specs.Reading.{asked_of}
 use Rattle.pieces.proofs.Made.{record_put}

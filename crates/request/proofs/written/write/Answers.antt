@@ -5,7 +5,7 @@ use borrow.Author.Rules.{rules}
 use Rattle.rules.specs.Answers.{Encoded}
 use Rattle.rules.specs.Request.{bytes_of, write_order}
 use Rattle.laws.specs.Answers.Orders.{passed}
-use Rattle.laws.specs.Answers.Requests.{write_right}
+use Rattle.laws.proofs.Answers.Requests.{write_right}
 use Rattle.word.specs.Sizes.{slots_are}
 use Rattle.code.specs.Reading.{encoded_of}
 use Rattle.text.specs.Puts.{put-length, put_then}

@@ -10,12 +10,12 @@ use Rattle.rules.specs.Word.{permitted}
 use Rattle.rules.specs.Level.{Best, nothing, best, word_distance, least_word, Least}
 use Rattle.rules.specs.Folding.{groups}
 use Rattle.rules.specs.Walk.{keep_best, candidates, walk_of, walk_visits}
-use Rattle.laws.specs.Walk.BranchAndBound.{AtMost, Leaf, best-good, best_from}
-use Rattle.laws.specs.Walk.Allowance.{within, walk_in, walk_allowed, within_some, within_none}
-use Rattle.laws.specs.Walk.Candidates.{candidates_ordered}
-use Rattle.laws.specs.Walk.Completions.{leaf-permitted, permitted-leaf}
+use Rattle.laws.proofs.Walk.Completions.{leaf-permitted, permitted-leaf}
 use Rattle.laws.specs.Code.Permitted.{permitted-zero}
 use Rattle.laws.specs.Distance.Least.{least_of, least_word_lem}
+use Rattle.laws.specs.Walk.Allowance.{walk_allowed, walk_in, within, within_none, within_some}
+use Rattle.laws.specs.Walk.BranchAndBound.{AtMost, Leaf, best-good, best_from}
+use Rattle.laws.specs.Walk.Candidates.{candidates_ordered}
 
 module _ (n mask : ℕ) (cost : ℕ → ℕ → ℕ) (folding : ℕ) (fits : folding < 2 ^ n) where
   -- what the walk has kept at the end is at most every permitted word

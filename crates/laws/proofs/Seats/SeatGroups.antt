@@ -9,13 +9,13 @@ use Rattle.std.proofs.Math.Arith.{digits_lt}
 use Rattle.std.specs.Int.Count.{ones}
 use Rattle.rules.specs.Below.{count_below, list_below}
 use Rattle.rules.specs.Folding.{smallest, group_no, group, groups}
-use Rattle.laws.specs.Numbers.Sums.{mem_at, mem_of}
-use Rattle.laws.specs.Numbers.SortedLists.{list_rising, rising-map, rising_unique, mem_map_at, mem_map_of}
+use Rattle.laws.specs.Numbers.Deposits.{deposit, deposit-lt, deposit_none, deposit_rises}
 use Rattle.laws.specs.Numbers.Each.{each_at}
-use Rattle.laws.specs.Walk.Groups.{smallest_twice, group_no-lt, group_no_same}
-use Rattle.laws.specs.Walk.GroupSizes.{groups_all, group_no_below, group_at, group_of, group-rising}
-use Rattle.laws.specs.Numbers.Deposits.{deposit, deposit-lt, deposit_rises, deposit_none}
-use Rattle.laws.specs.Seats.Seats.{has_bit, seat_index, out_part, ones-count, high_size, seat_at, seat_below, seat_onto, seat-smallest}
+use Rattle.laws.specs.Numbers.SortedLists.{list_rising, mem_map_at, mem_map_of, rising-map, rising_unique}
+use Rattle.laws.specs.Numbers.Sums.{mem_at, mem_of}
+use Rattle.laws.specs.Seats.Seats.{has_bit, high_size, ones-count, out_part, seat-smallest, seat_at, seat_below, seat_index, seat_onto}
+use Rattle.laws.specs.Walk.GroupSizes.{group-rising, group_at, group_no_below, group_of, groups_all}
+use Rattle.laws.specs.Walk.Groups.{group_no-lt, group_no_same, smallest_twice}
 
 -- a strictly rising map of the numbers below m into themselves moves none
 rising_self : (m : ℕ) (r : ℕ → ℕ) → ((i j : ℕ) → i < j → j < m → r i < r j) → ((i : ℕ) → i < m → r i < m) → (k : ℕ) → k < m → r k ≡ k

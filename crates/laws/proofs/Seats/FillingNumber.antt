@@ -6,16 +6,16 @@ use Rattle.rules.specs.Below.{sum_below}
 use Rattle.rules.specs.Word.{bit}
 use Rattle.rules.specs.Folding.{group, groups}
 use Rattle.rules.specs.Walk.{fillings}
-use Rattle.laws.specs.Numbers.Sums.{sum_cong}
+use Rattle.laws.proofs.Seats.SeatGroups.{group-seat, group-seat-lt}
 use Rattle.laws.specs.Numbers.Bits.{bit_lt_two}
 use Rattle.laws.specs.Numbers.Counts.{ones-sum}
-use Rattle.laws.specs.Walk.GroupSizes.{group-length}
-use Rattle.laws.specs.Walk.FillingCount.{unfrozen_in, fillings_number}
-use Rattle.laws.specs.Seats.SeatGroups.{group-seat, group-seat-lt}
-use Rattle.laws.specs.Seats.SeatWords.{seat, seat-bit}
+use Rattle.laws.specs.Numbers.Sums.{sum_cong}
 use Rattle.laws.specs.Seats.Blocks.{block_bit}
+use Rattle.laws.specs.Seats.SeatWords.{seat, seat-bit}
 use Rattle.laws.specs.Seats.SeatedFillings.{sum_first}
 use Rattle.laws.specs.Seats.SeatedRow.{block_of}
+use Rattle.laws.specs.Walk.FillingCount.{fillings_number, unfrozen_in}
+use Rattle.laws.specs.Walk.GroupSizes.{group-length}
 
 -- the unfrozen indices and the frozen ones make up the list
 unfrozen_and_frozen : (mask : ℕ) (is : List ℕ) → unfrozen_in mask is + sum_below (length is) (λ t. bit mask (get_or is t 0)) ≡ length is

@@ -1,0 +1,9 @@
+pub mod GuardAnswer
+pub mod LevelBytes
+pub mod Pieces
+pub mod Piped
+pub mod ReadBack
+pub mod Requests
+pub mod Sent
+pub mod Texts
+pub mod WrittenRecord

@@ -1,0 +1,7 @@
+pub mod Answers
+pub mod Codewords
+pub mod Distance
+pub mod Guard
+pub mod Numbers
+pub mod Seats
+pub mod Walk

@@ -1,0 +1,11 @@
+pub mod BlankBlocks
+pub mod Blocks
+pub mod Copied
+pub mod Decided
+pub mod FillingNumber
+pub mod SeatGroups
+pub mod SeatedBlocks
+pub mod SeatedDown
+pub mod SeatedFillings
+pub mod SeatedRow
+pub mod SeatedWalk

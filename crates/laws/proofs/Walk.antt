@@ -1,0 +1,5 @@
+pub mod CleanBlock
+pub mod Completions
+pub mod IdealVisits
+pub mod LeastByWalk
+pub mod Patterns
