@@ -55,7 +55,8 @@ bounds-one-seat c = omega (arith, c.requires.0.within, c.loop-t-test.true)
 pub overflow_add-near : goal.overflow_add-near
 overflow_add-near c =
     let pre = c.requires.0 in
-    record { fits = omega (arith, near_small _ _ _ _ _ c.loop-t.invariant.0 pre c.loop-t-test.true (given (goal.at.overflow_add-near c).After-slot-own) (omega (arith, pre.within))) }
+    let own = given (goal.at.overflow_add-near c).After-slot-own in
+    record { fits = omega (arith, near_small _ _ _ _ _ c.loop-t.invariant.0 pre c.loop-t-test.true own (omega (arith, pre.within))) }
 
 pub overflow_add-t : goal.overflow_add-t
 overflow_add-t c = omega (arith, c.requires.0.within, c.loop-t-test.true)
