@@ -31,8 +31,8 @@ fn put_refusal(said: &mut [u8], at: usize, refusal: Refusal) -> usize
 // The record of a request, or the number of its refusal.
 fn make(bytes: &[u8], out: &mut [u8], said: &mut [u8], ends: Ends) -> Ends
     requires { (ends.out + record_bytes ≤ length out.old) × (ends.said + longest_refusal ≤ length said.old) }
-    ensures within { Within record_bytes out.old ends.out (record_made (request_answer bytes.now)) result.out out.new }
-    ensures within_2 { Within longest_refusal said.old ends.said (refusal_said (request_answer bytes.now)) result.said said.new }
+    ensures shown { Within record_bytes out.old ends.out (record_made (request_answer bytes.now)) result.out out.new }
+    ensures told { Within longest_refusal said.old ends.said (refusal_said (request_answer bytes.now)) result.said said.new }
 {
     match request::read(bytes) {
         Asked::Request(request) => {
@@ -60,8 +60,8 @@ pub(crate) fn put(
     ends: Ends,
 ) -> Ends
     requires { (ends.out + longest_shown program ≤ length out.old) × (ends.said + longest_said program ≤ length said.old) }
-    ensures within { Within (longest_shown program) out.old ends.out (shown_of program number bytes.now) result.out out.new }
-    ensures within_2 { Within (longest_said program) said.old ends.said (said_of program number bytes.now) result.said said.new }
+    ensures shown { Within (longest_shown program) out.old ends.out (shown_of program number bytes.now) result.out out.new }
+    ensures told { Within (longest_said program) said.old ends.said (said_of program number bytes.now) result.said said.new }
 {
     match program {
         Program::Blocks => Ends {

@@ -23,5 +23,5 @@ module _ (levels : List ℤ) (slots first : ℕ) (long : length levels ≡ slots
       let absent : slot_found (length levels) first ≡ none = rw (le-ltb first (length levels) (rw long h)) in rw long at (found ∙ absent)
 
   -- no level is out of range
-  pub in_range : slots ≤ first → (i : ℕ) → i < slots → in_range (level_at levels i) ≡ true
-  in_range h i l = not-false _ (none_at slots (λ i. not (in_range (level_at levels i))) (range_right h) i l)
+  pub all_in_range : slots ≤ first → (i : ℕ) → i < slots → in_range (level_at levels i) ≡ true
+  all_in_range h i l = not-false _ (none_at slots (λ i. not (in_range (level_at levels i))) (range_right h) i l)

@@ -22,7 +22,6 @@ use Rattle.walk.specs.States.{kept_of, running_of, state_of}
 use Rattle.tree.specs.Empty.{first_empty}
 use Rattle.tree.specs.Search.{search_answer}
 use Rattle.tree.specs.Reading.{decoded_of}
-use Rattle.tree.specs.declared.Decoded.{Decoded}
 use Rattle.walk.specs.declared.state.Walked.{Walked}
 use Rattle.walk.proofs.Keeping.{has_best, no_best}
 use Rattle.walk.proofs.Trying.{running_state, ended_state}

@@ -1,0 +1,37 @@
+-- `tree::empty::first_empty` meets its contract. Invariant: no level before this one is empty.
+use mathlib.Core.Path.{◌≡◌}
+use native.Mathlib.Omega.{arith}
+use Rattle.groups.proofs.Tabling.{size_small, few_groups}
+use Rattle.tree.proofs.deciding.Emptiness.{passed_none, passed_next, found-empty, found_none}
+use Rattle.tree.proofs.empty.first_empty.Goals as goal
+
+pub loop-level-init : goal.loop-level-init
+loop-level-init c = passed_none c.requires.0
+
+pub offset_bounds-shut-group : goal.offset_bounds-shut-group
+offset_bounds-shut-group c = record { fits = omega (arith, few_groups c.requires.0) }
+
+pub bounds-shut-group : goal.bounds-shut-group
+bounds-shut-group c = omega (arith, few_groups c.requires.0)
+
+pub fillings-requires : goal.fillings-requires
+fillings-requires c =
+    let given = c.requires in
+    (size_small given.0, given.1 _ (omega arith))
+
+pub returns-then-fillings-eq0 : goal.returns-then-fillings-eq0
+returns-then-fillings-eq0 c =
+    found-empty c.requires.0 c.loop-level.invariant
+    (record { inside = c.loop-level-test.true; number = c.fillings.ensures })
+    c.if-fillings-eq0.true
+
+pub loop-level-preserved : goal.loop-level-preserved
+loop-level-preserved c =
+    passed_next c.requires.0 c.loop-level.invariant
+    (record { inside = c.loop-level-test.true; number = c.fillings.ensures })
+    c.if-fillings-eq0.false
+
+pub returns : goal.returns
+returns c =
+    let last : c.loop-level.level ≡ c.args.tree.groups = omega (arith, c.loop-level.invariant.inside) in
+    found_none c.requires.0 (rw last at c.loop-level.invariant)
