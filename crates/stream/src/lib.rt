@@ -7,6 +7,7 @@ mod piece; // piece.rt: how much of the input a piece has, what is written for i
 
 ghost use Rattle.std.specs.Prelude.{◌≤◌, length};
 ghost use Rattle.stream.specs.Pieces.{most_bytes, most_room, most_said, Onward};
+ghost use Rattle.stream.specs.Streams.{Passes, Runs};
 
 use piece::Next;
 use pieces::Program;
@@ -41,7 +42,9 @@ fn pass<R: Read, W: Write, E: Write>(
     said: &mut [u8],
 ) -> Passed
     requires { (most_bytes ≤ length bytes.old) × (most_room ≤ length out.old) × (most_said ≤ length said.old) }
-    ensures { Onward number result }
+    ensures onward { Onward number result }
+    ensures passes { Passes program number (R.remaining streams.old.input) (R.remaining streams.new.input)
+        (W.contents streams.old.output) (W.contents streams.new.output) result }
 {
     let got = calls::fill(&mut streams.input, bytes, piece::bytes(program, number));
     let taken = piece::taken(program, got.len, got.failure.is_some());
@@ -61,6 +64,41 @@ fn pass<R: Read, W: Write, E: Write>(
     }
 }
 
+// How a program ended: its input or the record numbers did, or a call of the system failed.
+#[derive(Clone, Copy)]
+enum Ended {
+    Whole,
+    NotRead(io::Error),
+    NotWritten(io::Error),
+}
+
+// The program over its streams, piece after piece.
+fn over<R: Read, W: Write, E: Write>(program: Program, streams: &mut Streams<R, W, E>) -> Ended
+    ensures { Runs program (R.remaining streams.old.input) (R.remaining streams.new.input)
+        (W.contents streams.old.output) (W.contents streams.new.output) result }
+{
+    let mut bytes = [0u8; piece::BYTES];
+    let mut out = [0u8; piece::ROOM];
+    let mut said = [0u8; piece::SAID];
+    let mut number = 0;
+    loop {
+        match pass(program, number, streams, &mut bytes, &mut out, &mut said) {
+            Passed::Next(next) => {
+                number = next;
+            }
+            Passed::End => {
+                return Ended::Whole;
+            }
+            Passed::NotRead(failure) => {
+                return Ended::NotRead(failure);
+            }
+            Passed::NotWritten(failure) => {
+                return Ended::NotWritten(failure);
+            }
+        }
+    }
+}
+
 // The whole program, under the name that it says of itself where a call of the system fails.
 pub fn run(rt: &HostRuntime, name: &[u8], program: Program) {
     let mut streams = Streams {
@@ -68,33 +106,13 @@ pub fn run(rt: &HostRuntime, name: &[u8], program: Program) {
         output: rt.stdout(),
         error: rt.stderr(),
     };
-    let mut bytes = [0u8; piece::BYTES];
-    let mut out = [0u8; piece::ROOM];
-    let mut said = [0u8; piece::SAID];
-    let mut number = 0;
-    loop {
-        match pass(
-            program,
-            number,
-            &mut streams,
-            &mut bytes,
-            &mut out,
-            &mut said,
-        ) {
-            Passed::Next(next) => {
-                number = next;
-            }
-            Passed::End => {
-                return;
-            }
-            Passed::NotRead(failure) => {
-                calls::not_read(&mut streams.error, rt.alloc(), name, failure);
-                return;
-            }
-            Passed::NotWritten(failure) => {
-                calls::not_written(&mut streams.error, rt.alloc(), name, failure);
-                return;
-            }
+    match over(program, &mut streams) {
+        Ended::Whole => {}
+        Ended::NotRead(failure) => {
+            calls::not_read(&mut streams.error, rt.alloc(), name, failure)
+        }
+        Ended::NotWritten(failure) => {
+            calls::not_written(&mut streams.error, rt.alloc(), name, failure)
         }
     }
 }
