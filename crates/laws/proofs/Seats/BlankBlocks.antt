@@ -1,13 +1,12 @@
 -- A word whose codeword is zero in its low blocks, up to block k: block k is then the word of the pattern that the blocks
 -- above force there, and a pattern of block k changes this block and none above.
-use Rattle.std.specs.Prelude.{ℕ, suc, ◌+◌, ◌-◌, ◌*◌, ◌/◌, ◌%◌, ◌^◌, ◌≤◌, ◌<◌, ◌≡◌, refl, Bool, true, false, cond}
-use Rattle.std.proofs.Common.{sym, ap, ◌∙◌, add_comm, suc-mul, add-mul, mul_assoc, mul_comm, mod-lt, le_trans, lt-suc_self, arith, pow_pos, pow-add, shl_lt, shr-shr}
-use Rattle.std.proofs.Math.Nat.{div-eq_of_lt, le_dest}
-use Rattle.std.proofs.Math.Pow.{split}
+use Rattle.std.specs.Prelude.{ℕ, suc, ◌+◌, ◌-◌, ◌*◌, ◌%◌, ◌^◌, ◌≤◌, ◌<◌, ◌≡◌}
+use Rattle.std.proofs.Common.{sym, ap, ◌∙◌, mod-lt, lt-suc_self, arith, pow_pos}
+use Rattle.std.proofs.Math.Nat.{le_dest}
 use Rattle.std.proofs.Math.Arith.{digits_lt}
-use Rattle.std.specs.Int.Bits.{bit_xor, xor_zero_l, xor_zero_r}
+use Rattle.std.specs.Int.Bits.{bit_xor, xor_zero_l}
 use Rattle.std.proofs.lemmas.Nat.{xor_comm, xor_lt, xor_mod, xor_shr}
-use Rattle.rules.specs.Word.{bit, covers, code_bit, codeword}
+use Rattle.rules.specs.Word.{bit, code_bit, codeword}
 use Rattle.laws.proofs.Codewords.Matrix.{codeword_twice}
 use Rattle.laws.specs.Code.Matrix.{codeword-bit, codeword-lt, codeword-xor}
 use Rattle.laws.specs.Numbers.Bits.{bit-div, bit-zero, bit_ext_below, covers_refl, xor_twice}

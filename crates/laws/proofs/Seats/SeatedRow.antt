@@ -1,7 +1,7 @@
 -- A node's candidates in seat order: the entries of its group's sorted row whose fillings have no frozen bit. A row goes by what
 -- the bits of its slots cost more than the nearer ones, in units of 1024; the branch has the cost of the nearer bits beside it.
 use Prim.Native.Nat.{ℕ, suc, ◌+◌, ◌*◌, ◌/◌, ◌%◌, ◌^◌, ◌≤◌, ◌<◌}
-use Rattle.std.specs.Prelude.{◌≡◌, Bool, true, false, cond, eqb, length}
+use Rattle.std.specs.Prelude.{◌≡◌, Bool, true, false, cond, length}
 use Rattle.std.proofs.Math.Path.{refl}
 use Rattle.std.proofs.Common.{sym, ap, ◌∙◌, ⊎_elim, mod-lt, pow_pos, pow_mono, eqb-true, eq-eqb}
 use mathlib.Core.List.Memᴰ

@@ -1,12 +1,10 @@
 -- The word of a walk: its codeword has the patterns of the groups decided so far, and zeros in those that are left. In the
 -- decided groups it is the information word; a pattern of the next group changes it by a word that goes by nothing decided.
-use Rattle.std.specs.Prelude.{ℕ, suc, ◌+◌, ◌-◌, ◌*◌, ◌/◌, ◌%◌, ◌^◌, ◌≤◌, ◌<◌, ◌≡◌, eqb}
-use Rattle.std.proofs.Common.{sym, ap₂, ◌∙◌, zero-mul, mul-one, suc-mul, div-one, div-mul-le_self, mod-lt, mod-eq_of_lt, lt_of_le_of_lt, arith, pow_pos, eq-eqb, ne_eqb}
-use Rattle.std.proofs.Math.Path.{ap}
+-- What rests on the statements here stands in proofs/Seats/Decided.antt.
+use Rattle.std.specs.Prelude.{ℕ, suc, ◌+◌, ◌*◌, ◌/◌, ◌%◌, ◌^◌, ◌≤◌, ◌<◌, ◌≡◌, eqb}
+use Rattle.std.proofs.Common.{sym, ◌∙◌, zero-mul, mul-one, div-one, pow_pos}
 use Rattle.std.proofs.Math.Nat.{zero-div}
-use Rattle.std.proofs.Math.Decide.{ℕ_discrete}
-use Rattle.std.proofs.lemmas.Nat.{shl-shr, xor_lt, ones-le}
-use Rattle.std.specs.Int.Bits.{bit_and, bit_xor, and_lt}
+use Rattle.std.specs.Int.Bits.{bit_and, bit_xor}
 use Rattle.std.specs.Int.Count.{ones}
 use Rattle.rules.specs.Word.{bit, codeword}
 use Rattle.rules.specs.Folding.{groups}

@@ -1,19 +1,14 @@
 -- A node's candidates in seat order: the entries of its group's sorted row whose fillings have no frozen bit. A row goes by what
 -- the bits of its slots cost more than the nearer ones, in units of 1024; the branch has the cost of the nearer bits beside it.
+-- What rests on the statements here stands in proofs/Seats/SeatedRow.antt.
 use Prim.Native.Nat.{ℕ, suc, ◌+◌, ◌*◌, ◌/◌, ◌%◌, ◌^◌, ◌≤◌, ◌<◌}
-use Rattle.std.specs.Prelude.{◌≡◌, Bool, true, false, cond, eqb, length}
-use Rattle.std.proofs.Math.Path.{refl}
-use Rattle.std.proofs.Common.{sym, ap, ◌∙◌, ⊎_elim, mod-lt, pow_pos, pow_mono, eqb-true, eq-eqb}
-use mathlib.Core.List.Memᴰ
-use mathlib.Core.List.{List, [], ◌∷◌, Memᴰ}
-use native.Mathlib.Omega.{arith}
+use Rattle.std.specs.Prelude.{◌≡◌, Bool, cond, eqb}
+use mathlib.Core.List.{List, [], ◌∷◌}
 use Rattle.std.specs.Int.Bits.{bit_and, bit_xor}
-use Rattle.std.proofs.lemmas.Nat.{xor_comm, xor_lt, ones-le}
 use Rattle.std.specs.Int.Count.{ones}
-use Rattle.rules.specs.Below.{sum_below}
-use Rattle.rules.specs.Word.{bit, code_bit, codeword}
-use Rattle.rules.specs.Folding.{group, groups}
-use Rattle.rules.specs.Walk.{Candidate, candidate, candidates, pattern, branch}
+use Rattle.rules.specs.Word.{bit, codeword}
+use Rattle.rules.specs.Folding.{groups}
+use Rattle.rules.specs.Walk.{Candidate}
 use Rattle.laws.specs.Seats.SeatWords.{seat, unseat}
 
 -- block k of a word in seat order, with s bits in a block
