@@ -44,7 +44,7 @@ above_split s k w =
 
 module _ (n f k v : ℕ) (fits : f ≤ n) (hk : k < 2 ^ (n - f)) (clear : (i : ℕ) → i < suc k * 2 ^ f → bit (codeword n v) i ≡ 0) where
   module _ (u : ℕ) (hu : u < 2 ^ (2 ^ f)) where
-    abbrev pub change : ℕ
+    abbrev change : ℕ
     change = codeword n (u * 2 ^ (k * 2 ^ f))
 
     -- and leaves the blocks above
