@@ -2,13 +2,11 @@
 -- received moved by some amount. If all amounts together are below the guard of the mask, every finished answer of decoding is
 -- the message that was sent, under every folding and allowance. At the guard this fails: for every mask that has a guard some
 -- block, moved by the guard in all, has the least word of another message, and is decoded as that.
-use Rattle.std.specs.Prelude.{ℕ, ◌^◌, ◌≤◌, ◌<◌, ◌≡◌, ◌≢◌, true, List, ℤ, pos, nat_abs, ◌-ℤ◌, length}
+use Rattle.std.specs.Prelude.{ℕ, ◌^◌, ◌≤◌, ◌<◌, ◌≡◌, List, ℤ, pos, nat_abs, ◌-ℤ◌}
 use Rattle.std.proofs.Common.{sym, ap, ◌∙◌}
 use Rattle.std.proofs.Math.Option.{some}
-use Rattle.std.specs.Int.Count.{ones}
-use Rattle.rules.specs.Below.{sum_below}
 use Rattle.rules.specs.Word.{bit, codeword, message_bits, spread, gather}
-use Rattle.rules.specs.Level.{ideal, ideal_levels, in_range, level_at, level_cost, Least}
+use Rattle.rules.specs.Level.{ideal, ideal_levels, level_at, level_cost}
 use Rattle.rules.specs.Guard.{guard_of}
 use Rattle.rules.specs.Walk.{walk_visits}
 use Rattle.rules.specs.Refusals.{done}

@@ -1,5 +1,5 @@
 -- Levels written in two bytes each: read again, each is itself.
-use Rattle.std.specs.Prelude.{ℕ, zero, suc, ◌-◌, ◌*◌, ◌^◌, ◌<◌, ◌≡◌, refl, List, [], ◌∷◌, ℤ, pos, negsuc, length, get_or}
+use Rattle.std.specs.Prelude.{ℕ, zero, suc, ◌-◌, ◌*◌, ◌^◌, ◌<◌, ◌≡◌, List, [], ◌∷◌, ℤ, pos, negsuc, length, get_or}
 use Rattle.std.proofs.Common.{ap, ◌∙◌, not-suc-le-zero, arith, lt-ltb, le-ltb}
 use Rattle.rules.specs.Record.{number_at, signed16}
 use Rattle.rules.specs.Request.{bytes_of, unsigned16, level_bytes}

@@ -2,12 +2,12 @@
 -- written for one after another is what is written for the whole input, or, where a read fails, for the whole records before that.
 -- The records may have any size, and anything may be written for one.
 use Prim.Native.Nat.{ℕ, zero, suc, ◌+◌, ◌-◌, ◌*◌, ◌/◌, ◌≤◌, ◌<◌, min}
-use Rattle.std.specs.Prelude.{◌≡◌, refl, Bool, true, false, ◌&&◌, cond, List, [], ◌++◌, leb, ltb, length, take, drop}
+use Rattle.std.specs.Prelude.{◌≡◌, refl, Bool, true, false, cond, List, [], ◌++◌, length, take, drop}
 use Rattle.std.proofs.Math.Path.{sym}
-use Rattle.std.proofs.Common.{ap, ◌∙◌, append-nil, le_refl, add-mul, div-mul-le_self, arith, length-drop, length-take-le, take-add}
+use Rattle.std.proofs.Common.{ap, ◌∙◌, append-nil, le_refl, add-mul, arith, length-drop, length-take-le, take-add}
 use Rattle.std.proofs.Math.Nat.{mul-add-div_right}
 use Rattle.std.proofs.Math.Decide.{dec_lt}
-use borrow.Author.Tests.{lt-ltb, le-ltb, le-leb, lt-leb}
+use borrow.Author.Tests.{lt-ltb, le-ltb}
 use Rattle.std.proofs.Math.Seq.{take_all, take-take}
 use Rattle.rules.specs.Text.{most_records, written_from}
 use Rattle.laws.specs.Answers.Pieces.{has_next, next_last, next_more, next_short, piece_bytes, piece_records, pieces_written, taken_of}

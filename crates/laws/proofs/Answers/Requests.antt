@@ -1,11 +1,9 @@
 -- The order of a request by parts, and what a request that is taken says: its fields are its bytes', of a right code and folding, with
 -- a message that fits.
-use Rattle.std.specs.Prelude.{ℕ, ◌^◌, ◌<◌, ◌≡◌, refl, ◌↔◌, List, [], ◌∷◌, ◌++◌}
+use Rattle.std.specs.Prelude.{ℕ, ◌≡◌, refl, ◌↔◌, List, [], ◌∷◌, ◌++◌}
 use Rattle.std.proofs.Common.{sym, ap, ◌∙◌, leb-false}
-use Rattle.std.proofs.Math.Option.{Option}
 use Rattle.std.proofs.lemmas.Bool.{lt-leb}
-use Rattle.rules.specs.Word.{message_bits}
-use Rattle.rules.specs.Refusals.{Refusal, done, answer, refuse, wrong_size, wrong_mask, wrong_message}
+use Rattle.rules.specs.Refusals.{done, answer, refuse, wrong_size, wrong_mask, wrong_message}
 use Rattle.rules.specs.Orders.{code_order, folding_order, folded_order}
 use Rattle.rules.specs.Request.{Request, request_of, short_request, request_not_zero, request_order, request_answer, write_order}
 use Rattle.laws.specs.Answers.Orders.{Passed, answer_again, folded_right, not_refused, parts, passed}

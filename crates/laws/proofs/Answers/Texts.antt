@@ -1,16 +1,13 @@
 -- What is written for bytes: for none, for the first record apart, from a place on, past the last record number, and cut after
 -- whole records: what is written for the first part, then for the second from the next number on. The records may have any size,
 -- and anything may be written for one.
-use Prim.Native.Nat.{ℕ, zero, suc, ◌+◌, ◌-◌, ◌*◌, ◌≤◌, ◌<◌, min}
+use Prim.Native.Nat.{ℕ, suc, ◌+◌, ◌-◌, ◌≤◌, ◌<◌}
 use Rattle.std.specs.Prelude.{◌≡◌, drop}
-use Rattle.std.proofs.Math.Path.{refl, ap}
-use Rattle.std.proofs.Common.{sym, ◌∙◌, add-zero, add-one, drop_of_length-le, drop-drop, take_all}
-use mathlib.Core.List.{List, [], ◌∷◌, ◌++◌, append_assoc}
-use Rattle.std.proofs.Math.Nat.{sub-zero, zero-sub, zero-mul, suc-mul}
+use Rattle.std.proofs.Common.{sym, ◌∙◌, add-one, drop_of_length-le, drop-drop, take_all}
+use mathlib.Core.List.{List, [], ◌∷◌, ◌++◌}
 use Rattle.std.proofs.Math.Decide.{dec_le}
 use native.Mathlib.Omega.{arith}
 use Rattle.std.proofs.Math.ListN.{length, take, length-drop}
-use Rattle.std.proofs.Math.Seq.{take-append-le, drop-append-le}
 use Rattle.rules.specs.Text.{records_up_to, each_from, most_records, written_from}
 use Rattle.laws.specs.Answers.Texts.{record_end}
 

@@ -1,13 +1,12 @@
 -- The matrix map of document 01: its bits, linear over exclusive or, by halves, its own inverse, and F^(⊗n).
-use Rattle.std.specs.Prelude.{ℕ, zero, suc, ◌+◌, ◌*◌, ◌/◌, ◌%◌, ◌^◌, ◌≤◌, ◌<◌, ◌≡◌, refl, Bool, true, false, ◌&&◌, cond}
-use Rattle.std.proofs.Common.{sym, ap, ap₂, ◌∙◌, zero-add, add-zero, mul-lt-mul_of_pos_right, mod-lt, lt_of_lt_of_le, mod-eq_of_lt, one-add, arith, pow_pos, pow_mono, pow-add, shr_lt}
-use Rattle.std.proofs.Math.Nat.{add-mod, two-pow-succ, le_dest, div-eq_of_lt}
-use Rattle.std.proofs.Math.Decide.{dec_lt, le_ind}
-use Rattle.std.proofs.Math.Arith.{lt-one}
+use Rattle.std.specs.Prelude.{ℕ, zero, suc, ◌+◌, ◌*◌, ◌/◌, ◌%◌, ◌^◌, ◌≤◌, ◌<◌, ◌≡◌, refl, Bool, true, false, cond}
+use Rattle.std.proofs.Common.{sym, ap, ◌∙◌, add-zero, mul-lt-mul_of_pos_right, mod-lt, lt_of_lt_of_le, mod-eq_of_lt, arith, pow_pos, pow_mono, pow-add, shr_lt}
+use Rattle.std.proofs.Math.Nat.{two-pow-succ, div-eq_of_lt}
+use Rattle.std.proofs.Math.Decide.{le_ind}
 use Rattle.std.proofs.Math.Pow.{high, low, split}
-use Rattle.std.specs.Int.Bits.{bit_xor, xor_zero_l, xor_zero_r, xor_self}
+use Rattle.std.specs.Int.Bits.{bit_xor, xor_zero_l, xor_zero_r}
 use Rattle.rules.specs.Below.{sum_below}
-use Rattle.rules.specs.Word.{bit, covers, code_bit, codeword, matrix_f, kronecker}
+use Rattle.rules.specs.Word.{bit, covers, code_bit, codeword, kronecker}
 use Rattle.laws.specs.Code.Matrix.{codeword-halves, codeword-lt, codeword-xor, codeword-zero, kronecker-covers}
 use Rattle.laws.specs.Numbers.Bits.{xor_twice}
 use Rattle.laws.specs.Numbers.Sums.{sum_cong}

@@ -1,12 +1,11 @@
 -- What a level costs at each bit: the cost of the nearer bit, and at the farther bit 1024 times the level's magnitude more; and so
 -- for a whole distance.
 -- (1024 is four times 256, the ideal level's magnitude, and no limit.)
-use Rattle.std.specs.Prelude.{ℕ, zero, suc, ◌+◌, ◌-◌, ◌*◌, ◌^◌, ◌≤◌, min, ◌≡◌, refl, true, List, ℤ, pos, negsuc, nat_abs}
-use Rattle.std.proofs.Common.{sym, ap, ap₂, ◌∙◌, le_trans, add-zero, mul-add, mul_comm, arith, leb-true}
-use Rattle.std.proofs.Math.Decide.{dec_le}
+use Rattle.std.specs.Prelude.{ℕ, ◌+◌, ◌*◌, ◌^◌, ◌≤◌, min, ◌≡◌, true, List, ℤ}
+use Rattle.std.proofs.Common.{ap, ◌∙◌, arith}
 use Rattle.rules.specs.Below.{sum_below}
 use Rattle.rules.specs.Word.{bit}
-use Rattle.rules.specs.Level.{limit, in_range, level_at, gap, slot_cost, level_cost, distance}
+use Rattle.rules.specs.Level.{limit, in_range, level_at, slot_cost, level_cost, distance}
 use Rattle.laws.specs.Distance.Excess.{cost_split, excess, nearest, one_nearer}
 use Rattle.laws.specs.Distance.GreatestDistance.{slot_greatest}
 use Rattle.laws.specs.Numbers.Sums.{sum-add, sum-mul, sum_cong}

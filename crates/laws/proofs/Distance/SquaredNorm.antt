@@ -2,11 +2,10 @@
 -- and y is the level on the scale on which the ideal levels are 0 and 1: y = (level + 256) / 512. So 512 · (y - x) is
 -- level + 256 - 512 · x, and 512² times the squared norm is the sum of the squares of these whole numbers. It is the distance,
 -- so that the least distance and the least norm are at the same word.
-use Rattle.std.specs.Prelude.{ℕ, zero, suc, ◌*◌, ◌^◌, ◌≤◌, ◌<◌, ◌≡◌, ◌↔◌, List, ℤ, pos, negsuc, nat_abs, ◌+ℤ◌, ◌-ℤ◌}
+use Rattle.std.specs.Prelude.{ℕ, zero, suc, ◌*◌, ◌^◌, ◌≤◌, ◌<◌, ◌≡◌, ◌↔◌, List, ℤ, pos, negsuc, nat_abs, ◌+ℤ◌}
 use Rattle.std.proofs.Common.{sym, ap, arith}
 use Rattle.std.proofs.Math.IntN.{+ℤ_idr, +ℤ_assoc}
 use Rattle.rules.specs.Word.{bit, codeword}
-use Rattle.rules.specs.Below.{sum_below}
 use Rattle.rules.specs.Level.{level_at, gap, slot_cost, level_cost, distance, word_distance}
 use Rattle.laws.specs.Distance.SquaredNorm.{scaled, scaled_norm}
 use Rattle.laws.specs.Numbers.Bits.{bit_lt_two}

@@ -1,13 +1,13 @@
 -- The margin: how much farther every other permitted word is than the one sent, by how far the slots were moved.
--- Over any cost and any measure of moving; then once for the cost of received levels.
-use Rattle.std.specs.Prelude.{ℕ, zero, suc, ◌+◌, ◌-◌, ◌*◌, ◌%◌, ◌^◌, ◌≤◌, ◌<◌, ◌≡◌, refl, ◌≢◌, true, List, ℤ, pos, negsuc}
-use Rattle.std.proofs.Common.{sym, ap, ◌∙◌, add_comm, mul_comm, mul-add, arith}
+-- Over any cost and any measure of moving.
+use Rattle.std.specs.Prelude.{ℕ, zero, suc, ◌+◌, ◌-◌, ◌*◌, ◌%◌, ◌^◌, ◌≤◌, ◌<◌, ◌≡◌, refl, ◌≢◌, true, ℤ, pos, negsuc}
+use Rattle.std.proofs.Common.{sym, ap, ◌∙◌, add_comm, arith}
 use Rattle.std.proofs.Math.Option.{some}
 use Rattle.std.proofs.Math.Decide.{ℕ_discrete, dec_le}
 use Rattle.std.specs.Int.Bits.{bit_xor, xor_zero_l}
 use Rattle.rules.specs.Below.{sum_below}
 use Rattle.rules.specs.Word.{bit, codeword, permitted}
-use Rattle.rules.specs.Level.{level_at, gap, slot_cost, level_cost, distance, word_distance}
+use Rattle.rules.specs.Level.{gap, slot_cost, distance, word_distance}
 use Rattle.rules.specs.Guard.{guard_of}
 use Rattle.laws.proofs.Codewords.Weight.{weight_least}
 use Rattle.laws.specs.Code.Matrix.{codeword-xor}

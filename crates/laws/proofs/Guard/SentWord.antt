@@ -1,10 +1,10 @@
 -- Demand 3: below the guard the least word is the word sent; at the guard it need not be.
-use Rattle.std.specs.Prelude.{ℕ, ◌*◌, ◌^◌, ◌≤◌, ◌<◌, ◌≡◌, ◌≢◌, true, List, ℤ, length}
+use Rattle.std.specs.Prelude.{ℕ, ◌*◌, ◌^◌, ◌≤◌, ◌<◌, ◌≡◌, true, List, ℤ}
 use Rattle.std.proofs.Common.{sym, ap, ◌∙◌, le_refl, le_of_lt, arith, pow_pos}
 use Rattle.std.proofs.Math.Option.{some}
 use Rattle.std.proofs.Math.Decide.{ℕ_discrete}
-use Rattle.rules.specs.Word.{codeword, permitted, spread, gather}
-use Rattle.rules.specs.Level.{in_range, level_at, level_cost, word_distance, Least}
+use Rattle.rules.specs.Word.{codeword, permitted}
+use Rattle.rules.specs.Level.{level_cost, word_distance, Least}
 use Rattle.rules.specs.Guard.{guard_of}
 use Rattle.laws.proofs.Codewords.Weight.{weight_single}
 use Rattle.laws.proofs.Guard.Farther.{farther, zero_of_gather}

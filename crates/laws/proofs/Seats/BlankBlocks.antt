@@ -1,17 +1,16 @@
 -- A word whose codeword is zero in its low blocks, up to block k: block k is then the word of the pattern that the blocks
 -- above force there, and a pattern of block k changes this block and none above.
-use Rattle.std.specs.Prelude.{ℕ, suc, ◌+◌, ◌-◌, ◌*◌, ◌/◌, ◌%◌, ◌^◌, ◌≤◌, ◌<◌, ◌≡◌, refl, Bool, true, false, cond}
-use Rattle.std.proofs.Common.{sym, ap, ◌∙◌, add_comm, suc-mul, add-mul, mul_assoc, mul_comm, mod-lt, le_trans, lt-suc_self, arith, pow_pos, pow-add, shl_lt, shr-shr}
-use Rattle.std.proofs.Math.Nat.{div-eq_of_lt, le_dest}
-use Rattle.std.proofs.Math.Pow.{split}
+use Rattle.std.specs.Prelude.{ℕ, suc, ◌+◌, ◌-◌, ◌*◌, ◌%◌, ◌^◌, ◌≤◌, ◌<◌, ◌≡◌}
+use Rattle.std.proofs.Common.{sym, ap, ◌∙◌, mod-lt, lt-suc_self, arith, pow_pos}
+use Rattle.std.proofs.Math.Nat.{le_dest}
 use Rattle.std.proofs.Math.Arith.{digits_lt}
-use Rattle.std.specs.Int.Bits.{bit_xor, xor_zero_l, xor_zero_r}
+use Rattle.std.specs.Int.Bits.{bit_xor, xor_zero_l}
 use Rattle.std.proofs.lemmas.Nat.{xor_comm, xor_lt, xor_mod, xor_shr}
-use Rattle.rules.specs.Word.{bit, covers, code_bit, codeword}
+use Rattle.rules.specs.Word.{bit, code_bit, codeword}
 use Rattle.laws.proofs.Codewords.Matrix.{codeword_twice}
 use Rattle.laws.specs.Code.Matrix.{codeword-bit, codeword-lt, codeword-xor}
 use Rattle.laws.specs.Numbers.Bits.{bit-div, bit-zero, bit_ext_below, covers_refl, xor_twice}
-use Rattle.laws.specs.Seats.BlankBlocks.{above_of, above_split, change, code_from}
+use Rattle.laws.specs.Seats.BlankBlocks.{above_of, above_split, code_from}
 use Rattle.laws.specs.Seats.Blocks.{block_below, block_bit, block_code_bit, block_decided, block_same}
 use Rattle.laws.specs.Seats.SeatedRow.{block_of}
 
@@ -40,14 +39,17 @@ module _ (n f k v : ℕ) (fits : f ≤ n) (hk : k < 2 ^ (n - f)) (clear : (i : �
       ∙ sym (codeword-bit n v (k * 2 ^ f + t)) ∙ clear (k * 2 ^ f + t) (digits_lt (lt-suc_self k) l) ∙ sym (bit-zero t)))
 
   module _ (u : ℕ) (hu : u < 2 ^ (2 ^ f)) where
-    change_block : block_of (2 ^ f) k (change n f k v fits hk clear u hu) ≡ codeword f u
+    abbrev change : ℕ
+    change = codeword n (u * 2 ^ (k * 2 ^ f))
+
+    change_block : block_of (2 ^ f) k change ≡ codeword f u
     change_block = bit_ext_below (2 ^ f) (mod-lt _ (pow_pos (2 ^ f))) (codeword-lt f u) (λ t l.
-        block_bit (2 ^ f) k (change n f k v fits hk clear u hu) t l ∙ codeword-bit n _ (k * 2 ^ f + t) ∙ block_code_bit n f k fits hk u hu k t l
+        block_bit (2 ^ f) k change t l ∙ codeword-bit n _ (k * 2 ^ f + t) ∙ block_code_bit n f k fits hk u hu k t l
         ∙ rw (covers_refl k) (sym (codeword-bit f u t)))
 
     -- a pattern of block k makes it the word of the pattern and the forced one together
     pub block_changed : block_of (2 ^ f) k (bit_xor v (codeword n (u * 2 ^ (k * 2 ^ f))))
         ≡ codeword f (bit_xor u (block_of (2 ^ f) k (codeword n (above_of (2 ^ f) (suc k) v))))
     block_changed =
-        ap (λ (x : ℕ). x % 2 ^ (2 ^ f)) (xor_shr v (change n f k v fits hk clear u hu) (k * 2 ^ f)) ∙ xor_mod _ _ (2 ^ f) ∙ ap (bit_xor own) change_block ∙ xor_comm own (codeword f u)
+        ap (λ (x : ℕ). x % 2 ^ (2 ^ f)) (xor_shr v change (k * 2 ^ f)) ∙ xor_mod _ _ (2 ^ f) ∙ ap (bit_xor own) change_block ∙ xor_comm own (codeword f u)
         ∙ ap (bit_xor (codeword f u)) (sym (ap (codeword f) forced_is ∙ codeword_twice f own own_lt)) ∙ sym (codeword-xor f u forced)

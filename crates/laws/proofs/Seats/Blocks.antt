@@ -1,16 +1,13 @@
 -- The matrix map by blocks of 2 ^ f neighbouring bits: the codeword of one block stands at each block that the block's
 -- number covers, and a block's codeword bits are final once it is added to the blocks above it.
-use Rattle.std.specs.Prelude.{ℕ, zero, suc, ◌+◌, ◌-◌, ◌*◌, ◌/◌, ◌%◌, ◌^◌, ◌≤◌, ◌<◌, min, ◌≡◌, ◌≢◌, Bool, ◌&&◌}
-use Rattle.std.proofs.Math.Path.{refl, sym, ap, ap₂}
-use Rattle.std.proofs.Common.{◌∙◌, mul-zero, one-mul, suc-mul, sub-add_cancel, mul-le-mul_right, add-zero, arith, pow_pos, pow-add, shl_lt}
+use Rattle.std.specs.Prelude.{ℕ, ◌+◌, ◌-◌, ◌*◌, ◌^◌, ◌≤◌, ◌<◌, ◌≡◌, Bool}
+use Rattle.std.proofs.Math.Path.{sym, ap, ap₂}
+use Rattle.std.proofs.Common.{◌∙◌, mul-zero, one-mul, pow_pos, pow-add}
 use Rattle.std.proofs.Math.Bool.{true, false, cond}
 use Rattle.std.proofs.Math.Nat.{zero-mul, mul_comm, mul_left_comm}
-use Rattle.std.proofs.Math.Decide.{dec_lt}
 use Rattle.std.proofs.Math.Pow.{pow-lt}
-use Rattle.std.proofs.Math.Arith.{digits_lt}
-use Rattle.std.specs.Int.Bits.{bit_xor, xor_disjoint}
 use Rattle.rules.specs.Below.{sum_below}
-use Rattle.rules.specs.Word.{bit, covers, code_bit, codeword}
+use Rattle.rules.specs.Word.{covers, code_bit, codeword}
 use Rattle.laws.proofs.Codewords.Matrix.{codeword_one}
 use Rattle.laws.specs.Numbers.Sums.{sum-mul, sum-zero, sum_cong}
 use Rattle.laws.specs.Seats.Blocks.{all_blocks, block_code_bit, sum_blocks}

@@ -8,8 +8,8 @@ use Rattle.std.proofs.Math.Nat.{mul-zero, div-eq_of_lt}
 use Rattle.std.proofs.Math.Decide.{dec_lt, ℕ_discrete}
 use Rattle.std.proofs.Math.Arith.{digits_lt}
 use Rattle.std.proofs.Math.Pow.{pow-lt, high_ones, ones_lt}
-use Rattle.std.proofs.lemmas.Nat.{shl-shr, xor_comm, and_le_l, ones-le, ones_cat}
-use Rattle.std.specs.Int.Bits.{bit_and, bit_xor, xor_shifted}
+use Rattle.std.proofs.lemmas.Nat.{shl-shr, and_le_l, ones-le, ones_cat}
+use Rattle.std.specs.Int.Bits.{bit_and}
 use Rattle.std.proofs.lemmas.Nat.Bits.{and_high}
 use Rattle.std.specs.Int.Count.{ones, ones-ones}
 use Rattle.rules.specs.Below.{sum_below, count_below}

@@ -1,14 +1,14 @@
 -- The word of a walk: its codeword has the patterns of the groups decided so far, and zeros in those that are left. In the
 -- decided groups it is the information word; a pattern of the next group changes it by a word that goes by nothing decided.
 use Rattle.std.specs.Prelude.{ℕ, suc, ◌+◌, ◌-◌, ◌*◌, ◌/◌, ◌%◌, ◌^◌, ◌≤◌, ◌<◌, ◌≡◌, eqb}
-use Rattle.std.proofs.Common.{sym, ap₂, ◌∙◌, zero-mul, mul-one, suc-mul, div-one, div-mul-le_self, mod-lt, mod-eq_of_lt, lt_of_le_of_lt, arith, pow_pos, eq-eqb, ne_eqb}
+use Rattle.std.proofs.Common.{sym, ap₂, ◌∙◌, zero-mul, suc-mul, div-mul-le_self, mod-lt, mod-eq_of_lt, lt_of_le_of_lt, arith, pow_pos, eq-eqb, ne_eqb}
 use Rattle.std.proofs.Math.Path.{ap}
 use Rattle.std.proofs.Math.Nat.{zero-div}
 use Rattle.std.proofs.Math.Decide.{ℕ_discrete}
 use Rattle.std.proofs.lemmas.Nat.{shl-shr, xor_lt, ones-le}
 use Rattle.std.specs.Int.Bits.{bit_and, bit_xor, and_lt}
 use Rattle.std.specs.Int.Count.{ones}
-use Rattle.rules.specs.Word.{bit, codeword}
+use Rattle.rules.specs.Word.{codeword}
 use Rattle.rules.specs.Folding.{groups}
 use Rattle.laws.proofs.Codewords.Matrix.{codeword_longer, codeword_twice}
 use Rattle.laws.proofs.Seats.BlankBlocks.{block_changed}
@@ -17,7 +17,7 @@ use Rattle.laws.specs.Code.Matrix.{codeword-lt, codeword-xor}
 use Rattle.laws.specs.Numbers.Bits.{bit-xor}
 use Rattle.laws.specs.Seats.BlankBlocks.{above_of, above_split, above_unchanged}
 use Rattle.laws.specs.Seats.Blocks.{block_below}
-use Rattle.laws.specs.Seats.Decided.{Blank, Filled, change_of, decided, next, seat_none, shut_of, u}
+use Rattle.laws.specs.Seats.Decided.{Blank, Filled, change_of, decided, seat_none, shut_of}
 use Rattle.laws.specs.Seats.SeatSums.{seat-xor, unseat_code}
 use Rattle.laws.specs.Seats.SeatWords.{seat, seat-lt, seat-unseat, unseat, unseat-zero}
 use Rattle.laws.specs.Seats.SeatedBlocks.{common_block}
@@ -39,6 +39,9 @@ zero_alike a b there back = go (ℕ_discrete b 0)
 
 module _ (n mask F : ℕ) (fits : F < 2 ^ n) (few : ones F ≤ 3) (k w e : ℕ) (hk : k < groups n F) (hw : w < 2 ^ (2 ^ n))
     (clear : Blank n F (suc k) w) (he : e % 256 < 2 ^ (2 ^ ones F)) where
+  abbrev u : ℕ
+  u = e % 256
+
   abbrev s : ℕ
   s = 2 ^ ones F
 
@@ -52,6 +55,9 @@ module _ (n mask F : ℕ) (fits : F < 2 ^ n) (few : ones F ≤ 3) (k w e : ℕ) 
   abbrev forced : ℕ
   forced = block_of s k (codeword n high)
 
+  abbrev next : ℕ
+  next = bit_xor w (change_of n F k u)
+
   high_lt : high < 2 ^ (2 ^ n)
   high_lt = lt_of_le_of_lt (div-mul-le_self v _) (seat-lt n F w)
 
@@ -62,36 +68,36 @@ module _ (n mask F : ℕ) (fits : F < 2 ^ n) (few : ones F ≤ 3) (k w e : ℕ) 
   inside : k < 2 ^ (n - ones F)
   inside = rw (groups_blocks n F fits) at hk
 
-  filling_is : codeword (ones F) (bit_xor (u n mask F fits few k w e hk hw clear he) forced) ≡ filling_of forced e
-  filling_is = sym (codeword_longer (ones F) 3 (bit_xor (u n mask F fits few k w e hk hw clear he) forced) few (xor_lt s (u n mask F fits few k w e hk hw clear he) forced he (mod-lt _ (pow_pos s))))
+  filling_is : codeword (ones F) (bit_xor u forced) ≡ filling_of forced e
+  filling_is = sym (codeword_longer (ones F) 3 (bit_xor u forced) few (xor_lt s u forced he (mod-lt _ (pow_pos s))))
 
   filling_lt : filling_of forced e < 2 ^ (2 ^ ones F)
   filling_lt = rw (← filling_is) (codeword-lt (ones F) _)
 
-  seated : seat n F (next n mask F fits few k w e hk hw clear he) ≡ bit_xor v (codeword n ((u n mask F fits few k w e hk hw clear he) * 2 ^ (k * s)))
+  seated : seat n F next ≡ bit_xor v (codeword n (u * 2 ^ (k * s)))
   seated = seat-xor n F fits w _ ∙ ap (bit_xor v) (ap (seat n F) (sym (unseat_code n F fits _)) ∙ seat-unseat n F fits _ (codeword-lt n _))
 
   -- the change gives group k its filling
-  block_is : block_of s k (seat n F (next n mask F fits few k w e hk hw clear he)) ≡ filling_of forced e
-  block_is = rw seated (block_changed n (ones F) k v (ones-le n F fits) inside clear (u n mask F fits few k w e hk hw clear he) he ∙ filling_is)
+  block_is : block_of s k (seat n F next) ≡ filling_of forced e
+  block_is = rw seated (block_changed n (ones F) k v (ones-le n F fits) inside clear u he ∙ filling_is)
 
   -- and the groups from k on are those above with this filling
-  above_is : above_of s k (seat n F (next n mask F fits few k w e hk hw clear he)) ≡ high + filling_of forced e * 2 ^ (k * s)
-  above_is = above_split s k (seat n F (next n mask F fits few k w e hk hw clear he))
-      ∙ ap₂ (λ (x y : ℕ). x + y * 2 ^ (k * s)) (rw seated (above_unchanged n (ones F) k v (ones-le n F fits) inside clear (u n mask F fits few k w e hk hw clear he) he)) block_is
+  above_is : above_of s k (seat n F next) ≡ high + filling_of forced e * 2 ^ (k * s)
+  above_is = above_split s k (seat n F next)
+      ∙ ap₂ (λ (x y : ℕ). x + y * 2 ^ (k * s)) (rw seated (above_unchanged n (ones F) k v (ones-le n F fits) inside clear u he)) block_is
 
-  code_is : codeword n (seat n F (next n mask F fits few k w e hk hw clear he)) ≡ bit_xor (codeword n v) ((u n mask F fits few k w e hk hw clear he) * 2 ^ (k * s))
-  code_is = rw seated (codeword-xor n v _ ∙ ap (bit_xor (codeword n v)) (codeword_twice n _ (block_small n F fits k (u n mask F fits few k w e hk hw clear he) hk he)))
+  code_is : codeword n (seat n F next) ≡ bit_xor (codeword n v) (u * 2 ^ (k * s))
+  code_is = rw seated (codeword-xor n v _ ∙ ap (bit_xor (codeword n v)) (codeword_twice n _ (block_small n F fits k u hk he)))
 
-  blank : Blank n F k (next n mask F fits few k w e hk hw clear he)
-  blank i l = rw code_is (bit-xor (codeword n v) _ i ∙ rw (clear i (omega (arith, suc-mul k s)), block_below s k (u n mask F fits few k w e hk hw clear he) i l))
+  blank : Blank n F k next
+  blank i l = rw code_is (bit-xor (codeword n v) _ i ∙ rw (clear i (omega (arith, suc-mul k s)), block_below s k u i l))
 
-  adding : decided n F k (next n mask F fits few k w e hk hw clear he) ≡ decided n F (suc k) w + unseat n F (filling_of forced e * 2 ^ (k * s))
+  adding : decided n F k next ≡ decided n F (suc k) w + unseat n F (filling_of forced e * 2 ^ (k * s))
   unfolding decided
   adding = ap (unseat n F) above_is ∙ seated_down n F k high (filling_of forced e) (block_below s (suc k) _) filling_lt
 
   -- the next word has a frozen bit of the group where the filling has one
-  freely : eqb (bit_and (next n mask F fits few k w e hk hw clear he) (shut_of n F mask k)) 0 ≡ eqb (bit_and (filling_of forced e) (block_of s k (seat n F mask))) 0
+  freely : eqb (bit_and next (shut_of n F mask k)) 0 ≡ eqb (bit_and (filling_of forced e) (block_of s k (seat n F mask))) 0
   freely = zero_alike _ _
       (λ z. none (sym (seat-unseat n F fits _ (block_small n F fits k _ hk (and_lt s _ shut filling_lt small))) ∙ ap (seat n F) (sym common ∙ z) ∙ seat_none n F))
       (λ z. common ∙ ap (λ (x : ℕ). unseat n F (x * 2 ^ (k * s))) z ∙ rw (zero-mul (2 ^ (k * s))) (unseat-zero n F))
@@ -102,13 +108,13 @@ module _ (n mask F : ℕ) (fits : F < 2 ^ n) (few : ones F ≤ 3) (k w e : ℕ) 
       small : shut < 2 ^ (2 ^ ones F)
       small = mod-lt _ (pow_pos s)
 
-      common : bit_and (next n mask F fits few k w e hk hw clear he) (shut_of n F mask k) ≡ unseat n F (bit_and (filling_of forced e) shut * 2 ^ (k * s))
-      common = rw block_is at (common_block n F fits k shut (next n mask F fits few k w e hk hw clear he) small)
+      common : bit_and next (shut_of n F mask k) ≡ unseat n F (bit_and (filling_of forced e) shut * 2 ^ (k * s))
+      common = rw block_is at (common_block n F fits k shut next small)
 
       none : bit_and (filling_of forced e) shut * 2 ^ (k * s) ≡ 0 → bit_and (filling_of forced e) shut ≡ 0
       none z = sym (shl-shr (bit_and (filling_of forced e) shut) (k * s)) ∙ ap (λ (x : ℕ). x / 2 ^ (k * s)) z ∙ zero-div (2 ^ (k * s))
 
-  changed : Filled n mask F k w e (next n mask F fits few k w e hk hw clear he)
+  changed : Filled n mask F k w e next
   changed = record {
     small = xor_lt (2 ^ n) w _ hw (codeword-lt n _);
     left = blank;

@@ -1,13 +1,10 @@
 -- A block in seat order, put back in index order, is block 0 put back and moved up to the group's smallest index; and what a
 -- word has in common with it.
-use Prim.Native.Nat.{ℕ, suc, ◌+◌, ◌-◌, ◌*◌, ◌/◌, ◌%◌, ◌^◌, ◌≤◌, ◌<◌}
+use Prim.Native.Nat.{ℕ, suc, ◌+◌, ◌-◌, ◌*◌, ◌^◌, ◌≤◌, ◌<◌}
 use Rattle.std.specs.Prelude.{◌≡◌}
-use Rattle.std.proofs.Common.{sym, ap₂, ◌∙◌, add-zero, zero-add, zero-mul, mul_comm, mul-one, mul_assoc, mod-lt, mod-eq_of_lt, lt_of_le_of_lt, arith, pow_pos, pow-add}
+use Rattle.std.proofs.Common.{sym, ap₂, ◌∙◌, zero-add, zero-mul, mul_comm, mul-one, mul_assoc, arith, pow-add}
 use Rattle.std.proofs.Math.Path.{ap}
 use Rattle.std.proofs.Math.Nat.{suc-mul, mul-le-mul_right}
-use Rattle.std.specs.Int.Bits.{bit_and, and_zero_r}
-use Rattle.std.proofs.lemmas.Nat.{and_block, and_mod, and_le_r}
-use Rattle.std.proofs.Math.Pow.{split}
 use Rattle.std.specs.Int.Count.{ones}
 use Rattle.rules.specs.Below.{sum_below}
 use Rattle.rules.specs.Word.{bit}

@@ -1,17 +1,14 @@
 -- The fillings of a group in seat order: the values of its block with no frozen bit. Patterns and branches place by place.
-use Prim.Native.Nat.{ℕ, zero, suc, ◌+◌, ◌*◌, ◌/◌, ◌%◌, ◌^◌, ◌≤◌, ◌<◌, min}
-use Rattle.std.specs.Prelude.{◌≡◌, refl, ◌≢◌, List, [], ◌∷◌, length, get_or}
+use Prim.Native.Nat.{ℕ, ◌+◌, ◌*◌, ◌/◌, ◌%◌, ◌^◌, ◌≤◌, ◌<◌, min}
+use Rattle.std.specs.Prelude.{◌≡◌, ◌≢◌}
 use Rattle.std.proofs.Math.Path.{sym, ap}
-use Rattle.std.proofs.Common.{◌∙◌, mod-lt, one-add, arith, pow_pos, eq-eqb, eqb-true}
-use Rattle.std.proofs.Math.Nat.{two-pow-succ}
+use Rattle.std.proofs.Common.{◌∙◌, mod-lt, arith, pow_pos, eq-eqb, eqb-true}
 use Rattle.std.proofs.Math.Decide.{dec_lt, ℕ_discrete}
 use Rattle.std.proofs.Math.Pow.{split, high}
 use Rattle.std.specs.Int.Bits.{bit_and}
 use Rattle.std.specs.Int.Count.{ones}
-use Rattle.rules.specs.Below.{sum_below}
-use Rattle.rules.specs.Word.{bit, code_bit}
+use Rattle.rules.specs.Word.{bit}
 use Rattle.rules.specs.Folding.{group, groups}
-use Rattle.rules.specs.Walk.{pattern, branch}
 use Rattle.laws.proofs.Seats.SeatGroups.{group-seat-lt, seat-group}
 use Rattle.laws.proofs.Seats.SeatedDown.{block_small}
 use Rattle.laws.specs.Numbers.Bits.{bit-and, bit-within, bit-zero, bit_beyond, bit_ext, bit_ext_below, bit_lt_two, small_of_bits}

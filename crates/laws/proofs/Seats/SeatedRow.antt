@@ -1,7 +1,7 @@
 -- A node's candidates in seat order: the entries of its group's sorted row whose fillings have no frozen bit. A row goes by what
 -- the bits of its slots cost more than the nearer ones, in units of 1024; the branch has the cost of the nearer bits beside it.
 use Prim.Native.Nat.{ℕ, suc, ◌+◌, ◌*◌, ◌/◌, ◌%◌, ◌^◌, ◌≤◌, ◌<◌}
-use Rattle.std.specs.Prelude.{◌≡◌, Bool, true, false, cond, eqb, length}
+use Rattle.std.specs.Prelude.{◌≡◌, Bool, true, false, cond, length}
 use Rattle.std.proofs.Math.Path.{refl}
 use Rattle.std.proofs.Common.{sym, ap, ◌∙◌, ⊎_elim, mod-lt, pow_pos, pow_mono, eqb-true, eq-eqb}
 use mathlib.Core.List.Memᴰ
@@ -27,7 +27,7 @@ use Rattle.laws.specs.Seats.Blocks.{block_decided}
 use Rattle.laws.specs.Seats.SeatWords.{seat, unseat, unseat_code_bit}
 use Rattle.laws.specs.Seats.SeatedDown.{groups_blocks, seated_down}
 use Rattle.laws.specs.Seats.SeatedFillings.{branch_is, pattern_is}
-use Rattle.laws.specs.Seats.SeatedRow.{block_of, branch_of, entry_candidate, entry_candidates, filling_of, forced, is_open, shut}
+use Rattle.laws.specs.Seats.SeatedRow.{block_of, branch_of, entry_candidate, entry_candidates, filling_of, is_open}
 use Rattle.laws.specs.Seats.Seats.{seat_index}
 use Rattle.laws.specs.Walk.Candidates.{Before, candidates_at, candidates_of_lem}
 use Rattle.laws.specs.Walk.Completions.{Node}
@@ -98,6 +98,12 @@ module _ (n mask : ℕ) (cost : ℕ → ℕ → ℕ) (near : ℕ → ℕ) (more 
     (F k w : ℕ) (fits : F < 2 ^ n) (few : ones F ≤ 3) (hk : k < groups n F)
     (clear : (i : ℕ) → i < suc k * 2 ^ ones F → bit w i ≡ 0) where
   -- what the bits of slot t cost more than the nearer one, and what the nearer bits of all slots cost
+  abbrev forced : ℕ
+  forced = block_of (2 ^ ones F) k (codeword n w)
+
+  abbrev shut : ℕ
+  shut = block_of (2 ^ ones F) k (seat n F mask)
+
   abbrev sums : ℕ → ℕ → ℕ
   sums t b = more (seat_index n F (k * 2 ^ ones F + t)) b
 
@@ -106,15 +112,15 @@ module _ (n mask : ℕ) (cost : ℕ → ℕ → ℕ) (near : ℕ → ℕ) (more 
 
   -- the value of block k that gives the pattern u
   abbrev value : ℕ → ℕ
-  value u = codeword 3 (bit_xor u (forced n mask cost near more split F k w fits few hk clear))
+  value u = codeword 3 (bit_xor u forced)
 
-  change_lt : (u : ℕ) → u < 2 ^ (2 ^ ones F) → bit_xor u (forced n mask cost near more split F k w fits few hk clear) < 2 ^ (2 ^ ones F)
-  change_lt u l = xor_lt (2 ^ ones F) u (forced n mask cost near more split F k w fits few hk clear) l (mod-lt (codeword n w / 2 ^ (k * 2 ^ ones F)) (pow_pos (2 ^ ones F)))
+  change_lt : (u : ℕ) → u < 2 ^ (2 ^ ones F) → bit_xor u forced < 2 ^ (2 ^ ones F)
+  change_lt u l = xor_lt (2 ^ ones F) u forced l (mod-lt (codeword n w / 2 ^ (k * 2 ^ ones F)) (pow_pos (2 ^ ones F)))
 
   eight : 2 ^ ones F ≤ 8
   eight = pow_mono few
 
-  filling_is : (u : ℕ) → u < 2 ^ (2 ^ ones F) → filling_of (forced n mask cost near more split F k w fits few hk clear) (entry_of sums (2 ^ ones F) u) ≡ value u
+  filling_is : (u : ℕ) → u < 2 ^ (2 ^ ones F) → filling_of forced (entry_of sums (2 ^ ones F) u) ≡ value u
   filling_is u l = rw (entry_parts sums (2 ^ ones F) u eight l).1
 
   code_at : (u : ℕ) → u < 2 ^ (2 ^ ones F) → (t : ℕ) → t < 2 ^ ones F
@@ -123,13 +129,13 @@ module _ (n mask : ℕ) (cost : ℕ → ℕ → ℕ) (near : ℕ → ℕ) (more 
       rw (← seated_down n F k w (value u) clear short.0)
       (unseat_code_bit n F fits _ (k * 2 ^ ones F + t) (group-seat-lt n F fits k t hk h)
       ∙ block_decided n (ones F) k (ones-le n F fits) (rw (groups_blocks n F fits) at hk) w (value u) clear short.0 t h
-      ∙ rw (short.1, xor_comm (forced n mask cost near more split F k w fits few hk clear) (bit_xor u (forced n mask cost near more split F k w fits few hk clear)), xor_twice u (forced n mask cost near more split F k w fits few hk clear)))
+      ∙ rw (short.1, xor_comm forced (bit_xor u forced), xor_twice u forced))
     where
-      short : (value u < 2 ^ (2 ^ ones F)) × (codeword (ones F) (value u) ≡ bit_xor u (forced n mask cost near more split F k w fits few hk clear))
-      short = short_code (ones F) (bit_xor u (forced n mask cost near more split F k w fits few hk clear)) few (change_lt u l)
+      short : (value u < 2 ^ (2 ^ ones F)) × (codeword (ones F) (value u) ≡ bit_xor u forced)
+      short = short_code (ones F) (bit_xor u forced) few (change_lt u l)
 
   entry-is : (u : ℕ) → u < 2 ^ (2 ^ ones F)
-      → entry_candidate n F (2 ^ ones F) k base (forced n mask cost near more split F k w fits few hk clear) (entry_of sums (2 ^ ones F) u)
+      → entry_candidate n F (2 ^ ones F) k base forced (entry_of sums (2 ^ ones F) u)
       ≡ candidate n cost (unseat n F w) (group n F k) (unseat n F (value u * 2 ^ (k * 2 ^ ones F)))
   unfolding entry_candidate candidate
   entry-is u l = λ i. record { filling = fills i; pattern = shows i; branch = adds i }
@@ -146,7 +152,7 @@ module _ (n mask : ℕ) (cost : ℕ → ℕ → ℕ) (near : ℕ → ℕ) (more 
       long : length (group n F k) ≡ 2 ^ ones F
       long = group-length n F fits k hk
 
-      fills : unseat n F (filling_of (forced n mask cost near more split F k w fits few hk clear) e * 2 ^ (k * 2 ^ ones F)) ≡ f
+      fills : unseat n F (filling_of forced e * 2 ^ (k * 2 ^ ones F)) ≡ f
       fills = ap (λ (v : ℕ). unseat n F (v * 2 ^ (k * 2 ^ ones F))) (filling_is u l)
 
       shows : e % 256 ≡ pattern n (unseat n F w + f) (group n F k)
@@ -165,28 +171,28 @@ module _ (n mask : ℕ) (cost : ℕ → ℕ → ℕ) (near : ℕ → ℕ) (more 
           ∙ rw long (sum_cong (2 ^ ones F) (λ t h. rw (group-seat n F fits k t hk h, code_at u l t h))))
 
   abbrev row : List Candidate
-  row = entry_candidates n F (2 ^ ones F) k base (forced n mask cost near more split F k w fits few hk clear) (shut n mask cost near more split F k w fits few hk clear) (row_of sums (2 ^ ones F))
+  row = entry_candidates n F (2 ^ ones F) k base forced shut (row_of sums (2 ^ ones F))
 
   row_there : (c : Candidate) → Memᴰ c row → Memᴰ c (candidates n mask cost F k (unseat n F w))
   row_there c m =
-      let r = entries_at n F (2 ^ ones F) k base (forced n mask cost near more split F k w fits few hk clear) (shut n mask cost near more split F k w fits few hk clear) (row_of sums (2 ^ ones F)) c m in
+      let r = entries_at n F (2 ^ ones F) k base forced shut (row_of sums (2 ^ ones F)) c m in
       let q = row-at sums (2 ^ ones F) r.0 r.1 in
       let small = (short_code (ones F) _ few (change_lt q.0 q.1)).0 in
-      let filled : filling_of (forced n mask cost near more split F k w fits few hk clear) r.0 ≡ value q.0 = ap (filling_of (forced n mask cost near more split F k w fits few hk clear)) q.2 ∙ filling_is q.0 q.1 in
-      rw (r.3 ∙ ap (entry_candidate n F (2 ^ ones F) k base (forced n mask cost near more split F k w fits few hk clear)) q.2 ∙ entry-is q.0 q.1)
+      let filled : filling_of forced r.0 ≡ value q.0 = ap (filling_of forced) q.2 ∙ filling_is q.0 q.1 in
+      rw (r.3 ∙ ap (entry_candidate n F (2 ^ ones F) k base forced) q.2 ∙ entry-is q.0 q.1)
       (candidates_of_lem n mask cost F k (unseat n F w) _ (block_fills n mask F k fits hk (value q.0) small (rw (← filled) (eqb-true _ 0 r.2))))
 
   row_back : (c : Candidate) → Memᴰ c (candidates n mask cost F k (unseat n F w)) → Memᴰ c row
   row_back c m =
       let r = candidates_at n mask cost F k (unseat n F w) c m in
       let b = fills_block n mask F k fits hk r.0 r.1 in
-      let u : ℕ = bit_xor (codeword (ones F) b.0) (forced n mask cost near more split F k w fits few hk clear) in
+      let u : ℕ = bit_xor (codeword (ones F) b.0) forced in
       let l : u < 2 ^ (2 ^ ones F) = change_lt _ (codeword-lt (ones F) b.0) in
       let same : value u ≡ b.0
       = rw xor_twice (codeword_longer (ones F) 3 _ few (codeword-lt (ones F) b.0) ∙ codeword_twice (ones F) b.0 b.1) in
-      let free : bit_and (filling_of (forced n mask cost near more split F k w fits few hk clear) (entry_of sums (2 ^ ones F) u)) (shut n mask cost near more split F k w fits few hk clear) ≡ 0 = rw (filling_is u l, same) b.2 in
+      let free : bit_and (filling_of forced (entry_of sums (2 ^ ones F) u)) shut ≡ 0 = rw (filling_is u l, same) b.2 in
       rw (r.2 ∙ sym (entry-is u l ∙ rw (same, b.3)))
-      (entries_of n F (2 ^ ones F) k base (forced n mask cost near more split F k w fits few hk clear) (shut n mask cost near more split F k w fits few hk clear) (row_of sums (2 ^ ones F)) _ (row_of_lem sums (2 ^ ones F) u l) (eq-eqb _ 0 free))
+      (entries_of n F (2 ^ ones F) k base forced shut (row_of sums (2 ^ ones F)) _ (row_of_lem sums (2 ^ ones F) u l) (eq-eqb _ 0 free))
 
   -- the open entries of the group's row are the candidates of the node
   pub seated-candidates : Node n mask F (suc k) (unseat n F w)
@@ -195,4 +201,4 @@ module _ (n mask : ℕ) (cost : ℕ → ℕ → ℕ) (near : ℕ → ℕ) (more 
       (row_of (λ t b. more (seat_index n F (k * 2 ^ ones F + t)) b) (2 ^ ones F))
       ≡ candidates n mask cost F k (unseat n F w)
   seated-candidates node = candidates_unique n mask F k (unseat n F w) node cost row
-      (entries_rising n F (2 ^ ones F) k base (forced n mask cost near more split F k w fits few hk clear) (shut n mask cost near more split F k w fits few hk clear) _ (row-rising sums (2 ^ ones F) eight)) row_there row_back
+      (entries_rising n F (2 ^ ones F) k base forced shut _ (row-rising sums (2 ^ ones F) eight)) row_there row_back

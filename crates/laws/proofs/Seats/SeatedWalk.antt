@@ -7,7 +7,7 @@ use Rattle.std.proofs.Math.Option.{Option, none, some}
 use mathlib.Core.List.{List, [], ◌∷◌, Memᴰ}
 use Rattle.std.specs.Int.Count.{ones}
 use Rattle.rules.specs.Below.{sum_below}
-use Rattle.rules.specs.Word.{bit, codeword}
+use Rattle.rules.specs.Word.{bit}
 use Rattle.rules.specs.Level.{nothing, best, word_distance, least_word}
 use Rattle.rules.specs.Folding.{group, groups}
 use Rattle.rules.specs.Walk.{Candidate, Keeping, State, count, keep_best, candidate, candidates, walk_visits}

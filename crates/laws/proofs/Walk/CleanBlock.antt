@@ -1,7 +1,7 @@
 -- A clean block: where one permitted word alone costs nothing, the walk takes a visit for each group and one more
 -- for each group with an unfrozen index. Over any such cost, then for the ideal levels.
 use Prim.Native.Nat.{ℕ, zero, suc, ◌+◌, ◌*◌, ◌^◌, ◌<◌}
-use Rattle.std.specs.Prelude.{◌≡◌, refl, Bool, pos}
+use Rattle.std.specs.Prelude.{◌≡◌, refl, Bool}
 use Rattle.std.proofs.Common.{sym, ◌∙◌, ap₂, ⊎_elim, lt-ltb}
 use Rattle.std.proofs.Math.Path.{ap}
 use Rattle.std.proofs.Math.Bool.{true, false, cond}
@@ -12,8 +12,8 @@ use Rattle.std.proofs.Math.Decide.{ℕ_discrete}
 use native.Mathlib.Omega.{arith}
 use Rattle.std.proofs.Math.ListN.{length}
 use Rattle.rules.specs.Below.{count_below, sum_below}
-use Rattle.rules.specs.Word.{bit, code_bit, codeword, permitted}
-use Rattle.rules.specs.Level.{nothing, best, ideal, slot_cost, level_cost, ideal_levels}
+use Rattle.rules.specs.Word.{code_bit, permitted}
+use Rattle.rules.specs.Level.{nothing, best}
 use Rattle.rules.specs.Folding.{group, groups}
 use Rattle.rules.specs.Walk.{Candidate, pattern, branch, candidate, candidates, keep_best, State, visit, walk, walk_of, walk_visits}
 use Rattle.laws.proofs.Walk.Completions.{branch_final}

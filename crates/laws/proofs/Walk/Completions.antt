@@ -1,13 +1,12 @@
 -- The leaves of the tree: with k levels left, the leaves below a node are the permitted words that agree with its
 -- word in the groups decided; at the root, every permitted word, each at its distance.
-use Prim.Native.Nat.{ℕ, zero, suc, ◌+◌, ◌^◌, ◌≤◌, ◌<◌, zero-le}
-use Rattle.std.specs.Prelude.{◌≡◌, true, ◌≢◌, eqb}
+use Prim.Native.Nat.{ℕ, zero, suc, ◌+◌, ◌^◌, ◌<◌}
+use Rattle.std.specs.Prelude.{◌≡◌, true}
 use Rattle.std.proofs.Math.Path.{refl}
-use Rattle.std.proofs.Common.{sym, ◌∙◌, zero-add, arith, eq-eqb, ne_eqb}
-use Rattle.std.proofs.Math.Decide.{dec_lt, ℕ_discrete}
-use Rattle.rules.specs.Word.{bit, unfrozen, permitted}
+use Rattle.std.proofs.Common.{sym, ◌∙◌, zero-add, arith}
+use Rattle.rules.specs.Word.{permitted}
 use Rattle.rules.specs.Level.{word_distance}
-use Rattle.rules.specs.Folding.{group_no, group, groups}
+use Rattle.rules.specs.Folding.{group, groups}
 use Rattle.rules.specs.Walk.{branch, candidate, candidates}
 use Rattle.laws.specs.Walk.BranchAndBound.{Leaf, Under}
 use Rattle.laws.specs.Walk.Branches.{branch_cong, cost_left, left_all, left_step, left_zero}

@@ -1,6 +1,6 @@
 -- Different fillings of a group have different patterns: so the candidates of a node are in strict order, and any
 -- list in that order with the same members is the same list.
-use Rattle.std.specs.Prelude.{ℕ, suc, ◌+◌, ◌*◌, ◌^◌, ◌≤◌, ◌<◌, ◌≡◌, ◌≢◌}
+use Rattle.std.specs.Prelude.{ℕ, suc, ◌+◌, ◌^◌, ◌≤◌, ◌<◌, ◌≡◌, ◌≢◌}
 use Rattle.std.proofs.Common.{sym, ◌∙◌, ap, arith}
 use mathlib.Core.List.{List, Memᴰ}
 use Rattle.std.proofs.Math.Decide.{ℕ_discrete}

@@ -10,7 +10,7 @@ use Rattle.rules.specs.Below.{first_below}
 use Rattle.rules.specs.Level.{in_range, level_at, level_cost}
 use Rattle.rules.specs.Folding.{group, groups}
 use Rattle.rules.specs.Walk.{fillings, walk_visits}
-use Rattle.rules.specs.Refusals.{Refusal, refused, answer, refuse, refuse_at, is_empty, wrong_size, wrong_length, wrong_mask, out_of_range, no_candidate, small_allowance}
+use Rattle.rules.specs.Refusals.{Refusal, refused, answer, refuse, refuse_at, is_empty, wrong_size, wrong_length, wrong_mask, out_of_range, no_candidate}
 use Rattle.rules.specs.Orders.{code_order, folding_order, folded_order, search_order, walk_order, decode_order}
 use Rattle.laws.specs.Numbers.Sums.{none_at, none_of}
 use Rattle.laws.specs.Walk.FillingCount.{unfrozen_in, fillings_number}

@@ -1,8 +1,8 @@
 -- Levels written in two bytes each: read again, each is itself.
-use Rattle.std.specs.Prelude.{ℕ, zero, suc, ◌-◌, ◌*◌, ◌^◌, ◌<◌, ◌≡◌, refl, List, [], ◌∷◌, ℤ, pos, negsuc, length, get_or}
-use Rattle.std.proofs.Common.{ap, ◌∙◌, not-suc-le-zero, arith, lt-ltb, le-ltb}
-use Rattle.rules.specs.Record.{number_at, signed16}
-use Rattle.rules.specs.Request.{bytes_of, unsigned16, level_bytes}
+-- What rests on the statements here stands in proofs/Answers/LevelBytes.antt.
+use Rattle.std.specs.Prelude.{◌*◌, ◌<◌, ◌≡◌, refl, List, [], ◌∷◌, ℤ, pos, negsuc, length}
+use Rattle.std.proofs.Common.{arith}
+use Rattle.rules.specs.Request.{bytes_of, level_bytes}
 
 -- a level of 16 bits: from -32768 to 32767
 abbrev pub Sixteen : ℤ → Type 0

@@ -1,14 +1,11 @@
 -- Input in pieces: how many bytes a piece may have, which of them count, and whether one comes after it. Law of the pieces: what is
 -- written for one after another is what is written for the whole input, or, where a read fails, for the whole records before that.
 -- The records may have any size, and anything may be written for one.
+-- What rests on the statements here stands in proofs/Answers/Pieces.antt.
 use Prim.Native.Nat.{ℕ, zero, suc, ◌+◌, ◌-◌, ◌*◌, ◌/◌, ◌≤◌, ◌<◌, min}
-use Rattle.std.specs.Prelude.{◌≡◌, refl, Bool, true, false, ◌&&◌, cond, List, [], ◌++◌, leb, ltb, length, take, drop}
-use Rattle.std.proofs.Math.Path.{sym}
-use Rattle.std.proofs.Common.{ap, ◌∙◌, append-nil, le_refl, add-mul, div-mul-le_self, arith, length-drop, length-take-le, take-add}
-use Rattle.std.proofs.Math.Nat.{mul-add-div_right}
-use Rattle.std.proofs.Math.Decide.{dec_lt}
+use Rattle.std.specs.Prelude.{◌≡◌, Bool, true, false, ◌&&◌, cond, List, [], ◌++◌, leb, ltb, length, take, drop}
+use Rattle.std.proofs.Common.{le_refl, div-mul-le_self}
 use borrow.Author.Tests.{lt-ltb, le-ltb, le-leb, lt-leb}
-use Rattle.std.proofs.Math.Seq.{take_all, take-take}
 use Rattle.rules.specs.Text.{most_records, written_from}
 
 -- how many records a piece has at the most

@@ -1,13 +1,11 @@
 -- `make` and then `blocks`: the text of the records that are made of a file of requests. Each request that is taken has a line, with
 -- its message at distance 0, or refusal 8 where its allowance is too small; those that are refused have none, and the lines are
 -- numbered on without them.
-use Rattle.std.specs.Prelude.{ℕ, zero, suc, ◌+◌, ◌≤◌, ◌<◌, ◌≡◌, refl, List, [], ◌∷◌, ◌++◌, length, take, drop}
-use Rattle.std.proofs.Common.{ap, ◌∙◌, add-one, arith, le-leb, length-take, length-drop, length-append, take_at, drop_at, get_or-take, get_or-drop}
-use Rattle.std.proofs.lemmas.Bool.{lt-leb}
+-- What rests on the statements here stands in proofs/Answers/Piped.antt.
+use Rattle.std.specs.Prelude.{ℕ, suc, ◌≤◌, ◌≡◌, List, [], ◌∷◌, ◌++◌}
 use Rattle.rules.specs.Refusals.{Answer, refused, done}
-use Rattle.rules.specs.Record.{record_bytes}
-use Rattle.rules.specs.Text.{line, record_line, records_up_to, each_from, most_records, text_from, written_from}
-use Rattle.rules.specs.Request.{Request, request_bytes, request_answer, record_of, record_made, made_from}
+use Rattle.rules.specs.Text.{line}
+use Rattle.rules.specs.Request.{Request, request_answer}
 use Rattle.laws.specs.Answers.Sent.{answer_sent, decoded_sent, visits_sent}
 
 -- the line of a request's own answer, then the lines from the next number on; where it is refused, only those, from this number on

@@ -1,20 +1,15 @@
 -- Decoding the record that is written for a request: the message that was sent comes back, with distance 0, or the allowance is too
 -- small. So it is for every request that is taken from bytes.
-use Rattle.std.specs.Prelude.{ℕ, zero, suc, ◌+◌, ◌^◌, ◌<◌, ◌≡◌, Bool, List}
-use Rattle.std.proofs.Math.Path.{refl, ap}
-use Rattle.std.proofs.Common.{sym, ◌∙◌, leb-true, leb-false}
-use Rattle.std.proofs.Math.Bool.{true, false, cond}
+-- What rests on the statements here stands in proofs/Answers/Sent.antt.
+use Rattle.std.specs.Prelude.{ℕ, ◌+◌}
+use Rattle.std.proofs.Math.Bool.{cond}
 use Rattle.std.proofs.Math.Dec.{leb}
 use Rattle.rules.specs.Below.{count_below}
-use Rattle.rules.specs.Word.{codeword, spread, gather}
-use Rattle.rules.specs.Level.{best, ideal, in_range, level_cost, word_distance, least_word}
+use Rattle.rules.specs.Word.{codeword, spread}
 use Rattle.rules.specs.Folding.{group, groups}
-use Rattle.rules.specs.Walk.{walk_visits}
 use Rattle.rules.specs.Refusals.{Answer, refused, done}
-use Rattle.rules.specs.Orders.{decode_order}
-use Rattle.rules.specs.Answers.{Decoded, decoded, decode_answer}
-use Rattle.rules.specs.Record.{read_answer, record_answer}
-use Rattle.rules.specs.Request.{Request, request_of, request_answer, record_of}
+use Rattle.rules.specs.Answers.{Decoded}
+use Rattle.rules.specs.Request.{Request}
 use Rattle.laws.specs.Answers.DecodeOrder.{eight}
 use Rattle.laws.specs.Walk.FillingCount.{has_unfrozen}
 

@@ -1,10 +1,11 @@
 -- What is written for bytes: for none, for the first record apart, from a place on, past the last record number, and cut after
 -- whole records: what is written for the first part, then for the second from the next number on. The records may have any size,
 -- and anything may be written for one.
+-- What rests on the statements here stands in proofs/Answers/Texts.antt.
 use Prim.Native.Nat.{ℕ, zero, suc, ◌+◌, ◌-◌, ◌*◌, ◌≤◌, ◌<◌, min}
 use Rattle.std.specs.Prelude.{◌≡◌, drop}
 use Rattle.std.proofs.Math.Path.{refl, ap}
-use Rattle.std.proofs.Common.{sym, ◌∙◌, add-zero, add-one, drop_of_length-le, drop-drop, take_all}
+use Rattle.std.proofs.Common.{sym, ◌∙◌, add-zero}
 use mathlib.Core.List.{List, [], ◌∷◌, ◌++◌, append_assoc}
 use Rattle.std.proofs.Math.Nat.{sub-zero, zero-sub, zero-mul, suc-mul}
 use Rattle.std.proofs.Math.Decide.{dec_le}

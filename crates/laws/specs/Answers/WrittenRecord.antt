@@ -1,19 +1,16 @@
 -- The record that is written for a request: its length, and that reading it gives the request's fields and the levels sent back.
-use Rattle.std.specs.Prelude.{ℕ, zero, suc, ◌+◌, ◌-◌, ◌*◌, ◌^◌, ◌≤◌, ◌<◌, ◌≡◌, true, ◌||◌, List, ◌++◌, ltb, eqb, ℤ, pos}
-use Rattle.std.proofs.Math.Path.{sym, ap}
-use Rattle.std.proofs.Common.{◌∙◌, le_of_eq, arith, length-append, take_at, lt-ltb, le-ltb, eq-eqb}
-use Rattle.std.proofs.Math.Option.{none}
-use Rattle.std.proofs.Math.Decide.{dec_lt}
+-- What rests on the statements here stands in proofs/Answers/WrittenRecord.antt.
+use Rattle.std.specs.Prelude.{ℕ, ◌+◌, ◌-◌, ◌^◌, ◌≤◌, ◌<◌, ◌≡◌, List, ◌++◌, ℤ, pos}
+use Rattle.std.proofs.Math.Path.{ap}
+use Rattle.std.proofs.Common.{◌∙◌, arith, length-append}
 use Rattle.std.proofs.Math.ListN.{length, get_or, replicate, get_or-replicate, get_or-append}
 use Rattle.std.proofs.lemmas.List.{length-replicate}
 use Rattle.std.proofs.Math.Pow.{pow_mono}
 use Rattle.std.proofs.Math.Seq.{get_or-append-add}
 use Rattle.rules.specs.Word.{bit, codeword, spread}
 use Rattle.rules.specs.Level.{ideal, ideal_levels}
-use Rattle.rules.specs.Refusals.{done, refuse}
-use Rattle.rules.specs.Orders.{folded_order}
-use Rattle.rules.specs.Record.{Fields, fields_of, block_levels, record_bytes, record_slots, number_at, signed16, slot_level, not_zero, read_answer}
-use Rattle.rules.specs.Request.{Request, bytes_of, unsigned16, level_bytes, record_levels, record_of}
+use Rattle.rules.specs.Record.{Fields, record_slots}
+use Rattle.rules.specs.Request.{Request, bytes_of, record_levels}
 use Rattle.laws.specs.Answers.GuardAnswer.{sent_levels}
 use Rattle.laws.specs.Answers.Requests.{WriteRight}
 use Rattle.laws.specs.Numbers.Each.{each-length, each_at}

@@ -1,11 +1,12 @@
 -- The matrix map of document 01: its bits, linear over exclusive or, by halves, its own inverse, and F^(⊗n).
+-- What rests on the statements here stands in proofs/Codewords/Matrix.antt.
 use Rattle.std.specs.Prelude.{ℕ, zero, suc, ◌+◌, ◌*◌, ◌/◌, ◌%◌, ◌^◌, ◌≤◌, ◌<◌, ◌≡◌, refl, Bool, true, false, ◌&&◌, cond}
-use Rattle.std.proofs.Common.{sym, ap, ap₂, ◌∙◌, zero-add, add-zero, mul-lt-mul_of_pos_right, mod-lt, lt_of_lt_of_le, mod-eq_of_lt, one-add, arith, pow_pos, pow_mono, pow-add, shr_lt}
-use Rattle.std.proofs.Math.Nat.{add-mod, two-pow-succ, le_dest, div-eq_of_lt}
-use Rattle.std.proofs.Math.Decide.{dec_lt, le_ind}
+use Rattle.std.proofs.Common.{sym, ap, ap₂, ◌∙◌, zero-add, mod-lt, one-add, arith, pow_pos, shr_lt}
+use Rattle.std.proofs.Math.Nat.{add-mod, two-pow-succ, le_dest}
+use Rattle.std.proofs.Math.Decide.{dec_lt}
 use Rattle.std.proofs.Math.Arith.{lt-one}
-use Rattle.std.proofs.Math.Pow.{high, low, split}
-use Rattle.std.specs.Int.Bits.{bit_xor, xor_zero_l, xor_zero_r, xor_self}
+use Rattle.std.proofs.Math.Pow.{split}
+use Rattle.std.specs.Int.Bits.{bit_xor, xor_self}
 use Rattle.rules.specs.Below.{sum_below}
 use Rattle.rules.specs.Word.{bit, covers, code_bit, codeword, matrix_f, kronecker}
 use Rattle.laws.specs.Numbers.Bits.{bit-div, bit-mod, bit-xor, bit_beyond, bit_ext, bit_high, bit_low, bit_lt_two, covers-le, covers_block, word_bit, word_lt}

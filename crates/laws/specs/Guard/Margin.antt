@@ -1,14 +1,11 @@
 -- The margin: how much farther every other permitted word is than the one sent, by how far the slots were moved.
 -- Over any cost and any measure of moving; then once for the cost of received levels.
-use Rattle.std.specs.Prelude.{ℕ, zero, suc, ◌+◌, ◌-◌, ◌*◌, ◌%◌, ◌^◌, ◌≤◌, ◌<◌, ◌≡◌, refl, ◌≢◌, true, List, ℤ, pos, negsuc}
-use Rattle.std.proofs.Common.{sym, ap, ◌∙◌, add_comm, mul_comm, mul-add, arith}
-use Rattle.std.proofs.Math.Option.{some}
-use Rattle.std.proofs.Math.Decide.{ℕ_discrete, dec_le}
-use Rattle.std.specs.Int.Bits.{bit_xor, xor_zero_l}
+-- What rests on the statements here stands in proofs/Guard/Margin.antt.
+use Rattle.std.specs.Prelude.{ℕ, ◌+◌, ◌*◌, ◌^◌, ◌≤◌, ◌<◌, ◌≡◌, ◌≢◌, List, ℤ}
+use Rattle.std.proofs.Common.{ap, mul_comm, mul-add, arith}
 use Rattle.rules.specs.Below.{sum_below}
-use Rattle.rules.specs.Word.{bit, codeword, permitted}
-use Rattle.rules.specs.Level.{level_at, gap, slot_cost, level_cost, distance, word_distance}
-use Rattle.rules.specs.Guard.{guard_of}
+use Rattle.rules.specs.Word.{bit, codeword}
+use Rattle.rules.specs.Level.{level_at, gap}
 
 -- at each slot the other bit costs 1024 × 256 more than the bit of x, less 1024 for each unit that the slot was moved
 abbrev pub Apart : ℕ → (ℕ → ℕ → ℕ) → (ℕ → ℕ) → ℕ → Type 0

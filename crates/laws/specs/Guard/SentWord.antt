@@ -1,11 +1,8 @@
 -- Demand 3: below the guard the least word is the word sent; at the guard it need not be.
-use Rattle.std.specs.Prelude.{ℕ, ◌*◌, ◌^◌, ◌≤◌, ◌<◌, ◌≡◌, ◌≢◌, true, List, ℤ, length}
-use Rattle.std.proofs.Common.{sym, ap, ◌∙◌, le_refl, le_of_lt, arith, pow_pos}
-use Rattle.std.proofs.Math.Option.{some}
-use Rattle.std.proofs.Math.Decide.{ℕ_discrete}
-use Rattle.rules.specs.Word.{codeword, permitted, spread, gather}
-use Rattle.rules.specs.Level.{in_range, level_at, level_cost, word_distance, Least}
-use Rattle.rules.specs.Guard.{guard_of}
+-- What rests on the statements here stands in proofs/Guard/SentWord.antt.
+use Rattle.std.specs.Prelude.{ℕ, ◌^◌, ◌<◌, ◌≡◌, ◌≢◌, true, List, ℤ, length}
+use Rattle.rules.specs.Word.{permitted, gather}
+use Rattle.rules.specs.Level.{in_range, level_at, level_cost, Least}
 use Rattle.laws.specs.Guard.Margin.{total_moved}
 
 -- a permitted word, and levels in range moved from it by the guard, at which word 0 is the least word, with another message

@@ -1,11 +1,9 @@
 -- The guard cannot be raised: a single bit sent, its ones moved to level 0, and word 0 is the least word.
-use Prim.Native.Nat.{ℕ, zero, suc, ◌*◌, ◌^◌, ◌≤◌, ◌<◌, zero-le}
-use Rattle.std.specs.Prelude.{◌≡◌, refl, true, List, map, ℤ, pos, negsuc, length}
-use Rattle.std.proofs.Common.{◌∙◌, arith}
-use Rattle.std.proofs.Math.Nat.{le_refl}
-use Rattle.rules.specs.Below.{sum_below, list_below}
-use Rattle.rules.specs.Word.{bit, codeword}
-use Rattle.rules.specs.Level.{in_range, level_at, gap, slot_cost, level_cost, distance, Least}
+-- What rests on the statements here stands in proofs/Guard/Tight.antt.
+use Prim.Native.Nat.{ℕ, zero, suc, ◌^◌}
+use Rattle.std.specs.Prelude.{true, List, map, ℤ, pos, negsuc}
+use Rattle.rules.specs.Below.{list_below}
+use Rattle.rules.specs.Word.{bit}
 
 -- half way from a one to a zero, and at a zero
 abbrev pub halfway : ℕ → ℤ

@@ -1,7 +1,8 @@
 -- A number written in so many bytes, little-endian, and read: it is itself, wherever in a list its bytes stand. And what is read from
 -- bytes is small.
-use Rattle.std.specs.Prelude.{ℕ, zero, suc, ◌+◌, ◌/◌, ◌^◌, ◌≤◌, ◌<◌, ◌≡◌, refl, List, [], ◌∷◌, ◌++◌, length, get_or, take, drop}
-use Rattle.std.proofs.Common.{ap, ◌∙◌, le_refl, le_of_eq, arith, length-drop, length-append, take_all, drop_at, get_or-drop}
+-- What rests on the statements here stands in proofs/Numbers/BytesOf.antt.
+use Rattle.std.specs.Prelude.{ℕ, zero, suc, ◌+◌, ◌/◌, ◌^◌, ◌≤◌, ◌<◌, ◌≡◌, refl, List, ◌++◌, length, get_or, drop}
+use Rattle.std.proofs.Common.{ap, arith, length-drop}
 use Rattle.std.proofs.Math.Nat.{pow-succ', mod-add-div}
 use Rattle.std.proofs.lemmas.List.{take-append-le, drop-append-le}
 use Rattle.std.proofs.Math.Seq.{drop-append-add}

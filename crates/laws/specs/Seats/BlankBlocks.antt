@@ -1,12 +1,12 @@
 -- A word whose codeword is zero in its low blocks, up to block k: block k is then the word of the pattern that the blocks
 -- above force there, and a pattern of block k changes this block and none above.
+-- What rests on the statements here stands in proofs/Seats/BlankBlocks.antt.
 use Rattle.std.specs.Prelude.{ℕ, suc, ◌+◌, ◌-◌, ◌*◌, ◌/◌, ◌%◌, ◌^◌, ◌≤◌, ◌<◌, ◌≡◌, refl, Bool, true, false, cond}
-use Rattle.std.proofs.Common.{sym, ap, ◌∙◌, add_comm, suc-mul, add-mul, mul_assoc, mul_comm, mod-lt, le_trans, lt-suc_self, arith, pow_pos, pow-add, shl_lt, shr-shr}
-use Rattle.std.proofs.Math.Nat.{div-eq_of_lt, le_dest}
+use Rattle.std.proofs.Common.{sym, ap, ◌∙◌, add_comm, suc-mul, add-mul, mul_assoc, mul_comm, le_trans, pow-add, shl_lt, shr-shr}
+use Rattle.std.proofs.Math.Nat.{div-eq_of_lt}
 use Rattle.std.proofs.Math.Pow.{split}
-use Rattle.std.proofs.Math.Arith.{digits_lt}
-use Rattle.std.specs.Int.Bits.{bit_xor, xor_zero_l, xor_zero_r}
-use Rattle.std.proofs.lemmas.Nat.{xor_comm, xor_lt, xor_mod, xor_shr}
+use Rattle.std.specs.Int.Bits.{bit_xor, xor_zero_r}
+use Rattle.std.proofs.lemmas.Nat.{xor_shr}
 use Rattle.rules.specs.Word.{bit, covers, code_bit, codeword}
 use Rattle.laws.specs.Code.Matrix.{codeword-bit, codeword-zero}
 use Rattle.laws.specs.Numbers.Bits.{bit-zero, bit_beyond, covers-le, small_of_bits}
@@ -44,7 +44,7 @@ above_split s k w =
 
 module _ (n f k v : ℕ) (fits : f ≤ n) (hk : k < 2 ^ (n - f)) (clear : (i : ℕ) → i < suc k * 2 ^ f → bit (codeword n v) i ≡ 0) where
   module _ (u : ℕ) (hu : u < 2 ^ (2 ^ f)) where
-    abbrev pub change : ℕ
+    abbrev change : ℕ
     change = codeword n (u * 2 ^ (k * 2 ^ f))
 
     -- and leaves the blocks above

@@ -1,20 +1,14 @@
 -- Group by group in index order: the change of a pattern is that of group 0 times the codeword of the group's smallest index, two
 -- words whose ones lie in disjoint index bits; that codeword from the one of the group without its highest one bit; and the
 -- frozen indices of a group.
-use Prim.Native.Nat.{ℕ, zero, suc, ◌+◌, ◌-◌, ◌*◌, ◌^◌, ◌≤◌, ◌<◌}
-use Rattle.std.specs.Prelude.{◌≡◌, Bool, true, false, cond}
-use Rattle.std.proofs.Common.{sym, ap, ap₂, ◌∙◌, add_comm, add-zero, zero-mul, one-mul, mul-one, mul-add, suc-mul, mod-lt, le_refl, lt_of_lt_of_le, arith, pow_pos, pow-add, pow_mono}
-use Rattle.std.proofs.Math.Nat.{mul-zero, div-eq_of_lt}
-use Rattle.std.proofs.Math.Decide.{dec_lt, ℕ_discrete}
-use Rattle.std.proofs.Math.Arith.{digits_lt}
-use Rattle.std.proofs.Math.Pow.{pow-lt, high_ones, ones_lt}
-use Rattle.std.proofs.lemmas.Nat.{shl-shr, xor_comm, and_le_l, ones-le, ones_cat}
-use Rattle.std.specs.Int.Bits.{bit_and, bit_xor, xor_shifted}
-use Rattle.std.proofs.lemmas.Nat.Bits.{and_high}
-use Rattle.std.specs.Int.Count.{ones, ones-ones}
-use Rattle.rules.specs.Below.{sum_below, count_below}
-use Rattle.rules.specs.Word.{bit, covers, codeword}
-use Rattle.rules.specs.Folding.{groups, smallest}
+-- What rests on the statements here stands in proofs/Seats/Copied.antt.
+use Prim.Native.Nat.{ℕ, ◌+◌, ◌*◌, ◌^◌, ◌<◌}
+use Rattle.std.specs.Prelude.{◌≡◌}
+use Rattle.std.proofs.Common.{sym, ◌∙◌, zero-mul, one-mul, mul-one, lt_of_lt_of_le, pow_mono}
+use Rattle.std.proofs.lemmas.Nat.{xor_comm, ones-le}
+use Rattle.std.specs.Int.Bits.{bit_xor, xor_shifted}
+use Rattle.std.specs.Int.Count.{ones}
+use Rattle.rules.specs.Word.{codeword}
 use Rattle.laws.specs.Code.Matrix.{codeword-xor}
 use Rattle.laws.specs.Seats.Decided.{change_of}
 use Rattle.laws.specs.Seats.SeatSums.{unseat-xor}

@@ -1,15 +1,12 @@
 -- The word of a walk: its codeword has the patterns of the groups decided so far, and zeros in those that are left. In the
 -- decided groups it is the information word; a pattern of the next group changes it by a word that goes by nothing decided.
-use Rattle.std.specs.Prelude.{ℕ, suc, ◌+◌, ◌-◌, ◌*◌, ◌/◌, ◌%◌, ◌^◌, ◌≤◌, ◌<◌, ◌≡◌, eqb}
-use Rattle.std.proofs.Common.{sym, ap₂, ◌∙◌, zero-mul, mul-one, suc-mul, div-one, div-mul-le_self, mod-lt, mod-eq_of_lt, lt_of_le_of_lt, arith, pow_pos, eq-eqb, ne_eqb}
-use Rattle.std.proofs.Math.Path.{ap}
+-- What rests on the statements here stands in proofs/Seats/Decided.antt.
+use Rattle.std.specs.Prelude.{ℕ, suc, ◌+◌, ◌*◌, ◌/◌, ◌^◌, ◌<◌, ◌≡◌, eqb}
+use Rattle.std.proofs.Common.{sym, ◌∙◌, zero-mul, mul-one, div-one, pow_pos}
 use Rattle.std.proofs.Math.Nat.{zero-div}
-use Rattle.std.proofs.Math.Decide.{ℕ_discrete}
-use Rattle.std.proofs.lemmas.Nat.{shl-shr, xor_lt, ones-le}
-use Rattle.std.specs.Int.Bits.{bit_and, bit_xor, and_lt}
+use Rattle.std.specs.Int.Bits.{bit_and}
 use Rattle.std.specs.Int.Count.{ones}
 use Rattle.rules.specs.Word.{bit, codeword}
-use Rattle.rules.specs.Folding.{groups}
 use Rattle.laws.specs.Code.Matrix.{codeword-zero}
 use Rattle.laws.specs.Numbers.Bits.{bit-zero, bit_ext_below}
 use Rattle.laws.specs.Seats.SeatWords.{seat, seat-bit, seat-lt, unseat, unseat-seat, unseat-zero}
@@ -58,11 +55,3 @@ pub record Filled (n mask F k w e next : ℕ) : Type 0 where
       ≡ decided n F (suc k) w + unseat n F (filling_of (block_of (2 ^ ones F) k (codeword n (seat n F (decided n F (suc k) w)))) e * 2 ^ (k * 2 ^ ones F))
   pub free : eqb (bit_and next (shut_of n F mask k)) 0
       ≡ eqb (bit_and (filling_of (block_of (2 ^ ones F) k (codeword n (seat n F (decided n F (suc k) w)))) e) (block_of (2 ^ ones F) k (seat n F mask))) 0
-
-module _ (n mask F : ℕ) (fits : F < 2 ^ n) (few : ones F ≤ 3) (k w e : ℕ) (hk : k < groups n F) (hw : w < 2 ^ (2 ^ n))
-    (clear : Blank n F (suc k) w) (he : e % 256 < 2 ^ (2 ^ ones F)) where
-  abbrev pub u : ℕ
-  u = e % 256
-
-  abbrev pub next : ℕ
-  next = bit_xor w (change_of n F k u)

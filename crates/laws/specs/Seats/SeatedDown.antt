@@ -1,6 +1,7 @@
 -- A step down in seat order: block k is added to a word that has no ones there or below.
+-- What rests on the statements here stands in proofs/Seats/SeatedDown.antt.
 use Rattle.std.specs.Prelude.{ℕ, suc, ◌+◌, ◌-◌, ◌*◌, ◌/◌, ◌^◌, ◌≤◌, ◌<◌, ◌≡◌}
-use Rattle.std.proofs.Common.{sym, ap, ◌∙◌, sub-add_cancel, suc-mul, mul-le-mul_right, lt_of_lt_of_le, arith, pow-add, pow_mono, shl_lt}
+use Rattle.std.proofs.Common.{sym, ap, ◌∙◌, sub-add_cancel, arith, pow-add}
 use Rattle.std.proofs.Math.Decide.{dec_lt}
 use Rattle.std.proofs.lemmas.Nat.{shl-shr, ones-le}
 use Rattle.std.specs.Int.Count.{ones}

@@ -1,16 +1,12 @@
 -- The fillings of a group in seat order: the values of its block with no frozen bit. Patterns and branches place by place.
-use Prim.Native.Nat.{ℕ, zero, suc, ◌+◌, ◌*◌, ◌/◌, ◌%◌, ◌^◌, ◌≤◌, ◌<◌, min}
-use Rattle.std.specs.Prelude.{◌≡◌, refl, ◌≢◌, List, [], ◌∷◌, length, get_or}
+-- What rests on the statements here stands in proofs/Seats/SeatedFillings.antt.
+use Prim.Native.Nat.{ℕ, zero, suc, ◌+◌, ◌/◌, ◌^◌, ◌<◌}
+use Rattle.std.specs.Prelude.{◌≡◌, refl, List, [], ◌∷◌, length, get_or}
 use Rattle.std.proofs.Math.Path.{sym, ap}
-use Rattle.std.proofs.Common.{◌∙◌, mod-lt, one-add, arith, pow_pos, eq-eqb, eqb-true}
+use Rattle.std.proofs.Common.{◌∙◌, one-add, arith}
 use Rattle.std.proofs.Math.Nat.{two-pow-succ}
-use Rattle.std.proofs.Math.Decide.{dec_lt, ℕ_discrete}
-use Rattle.std.proofs.Math.Pow.{split, high}
-use Rattle.std.specs.Int.Bits.{bit_and}
-use Rattle.std.specs.Int.Count.{ones}
 use Rattle.rules.specs.Below.{sum_below}
 use Rattle.rules.specs.Word.{bit, code_bit}
-use Rattle.rules.specs.Folding.{group, groups}
 use Rattle.rules.specs.Walk.{pattern, branch}
 use Rattle.laws.specs.Numbers.Bits.{bit-div}
 

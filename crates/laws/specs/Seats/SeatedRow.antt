@@ -1,20 +1,13 @@
 -- A node's candidates in seat order: the entries of its group's sorted row whose fillings have no frozen bit. A row goes by what
 -- the bits of its slots cost more than the nearer ones, in units of 1024; the branch has the cost of the nearer bits beside it.
-use Prim.Native.Nat.{ℕ, suc, ◌+◌, ◌*◌, ◌/◌, ◌%◌, ◌^◌, ◌≤◌, ◌<◌}
-use Rattle.std.specs.Prelude.{◌≡◌, Bool, true, false, cond, eqb, length}
-use Rattle.std.proofs.Math.Path.{refl}
-use Rattle.std.proofs.Common.{sym, ap, ◌∙◌, ⊎_elim, mod-lt, pow_pos, pow_mono, eqb-true, eq-eqb}
-use mathlib.Core.List.Memᴰ
-use mathlib.Core.List.{List, [], ◌∷◌, Memᴰ}
-use native.Mathlib.Omega.{arith}
+-- What rests on the statements here stands in proofs/Seats/SeatedRow.antt.
+use Prim.Native.Nat.{ℕ, ◌+◌, ◌*◌, ◌/◌, ◌%◌, ◌^◌}
+use Rattle.std.specs.Prelude.{Bool, cond, eqb}
+use mathlib.Core.List.{List, [], ◌∷◌}
 use Rattle.std.specs.Int.Bits.{bit_and, bit_xor}
-use Rattle.std.proofs.lemmas.Nat.{xor_comm, xor_lt, ones-le}
-use Rattle.std.specs.Int.Count.{ones}
-use Rattle.rules.specs.Below.{sum_below}
-use Rattle.rules.specs.Word.{bit, code_bit, codeword}
-use Rattle.rules.specs.Folding.{group, groups}
-use Rattle.rules.specs.Walk.{Candidate, candidate, candidates, pattern, branch}
-use Rattle.laws.specs.Seats.SeatWords.{seat, unseat}
+use Rattle.rules.specs.Word.{codeword}
+use Rattle.rules.specs.Walk.{Candidate}
+use Rattle.laws.specs.Seats.SeatWords.{unseat}
 
 -- block k of a word in seat order, with s bits in a block
 abbrev pub block_of : ℕ → ℕ → ℕ → ℕ
@@ -43,12 +36,3 @@ entry_candidates n F s k near forced shut [] = []
 entry_candidates n F s k near forced shut (e ∷ es) =
     let others = entry_candidates n F s k near forced shut es in
     cond (is_open shut forced e) (entry_candidate n F s k near forced e ∷ others) others
-
-module _ (n mask : ℕ) (cost : ℕ → ℕ → ℕ) (near : ℕ → ℕ) (more : ℕ → ℕ → ℕ) (split : (i b : ℕ) → cost i b ≡ near i + 1024 * more i b)
-    (F k w : ℕ) (fits : F < 2 ^ n) (few : ones F ≤ 3) (hk : k < groups n F)
-    (clear : (i : ℕ) → i < suc k * 2 ^ ones F → bit w i ≡ 0) where
-  abbrev pub forced : ℕ
-  forced = block_of (2 ^ ones F) k (codeword n w)
-
-  abbrev pub shut : ℕ
-  shut = block_of (2 ^ ones F) k (seat n F mask)

@@ -1,14 +1,12 @@
 -- The leaves of the tree: with k levels left, the leaves below a node are the permitted words that agree with its
 -- word in the groups decided; at the root, every permitted word, each at its distance.
-use Prim.Native.Nat.{ℕ, zero, suc, ◌+◌, ◌^◌, ◌≤◌, ◌<◌, zero-le}
+-- What rests on the statements here stands in proofs/Walk/Completions.antt.
+use Prim.Native.Nat.{ℕ, suc, ◌+◌, ◌^◌, ◌≤◌, ◌<◌, zero-le}
 use Rattle.std.specs.Prelude.{◌≡◌, true, ◌≢◌, eqb}
-use Rattle.std.proofs.Math.Path.{refl}
-use Rattle.std.proofs.Common.{sym, ◌∙◌, zero-add, arith, eq-eqb, ne_eqb}
+use Rattle.std.proofs.Common.{sym, ◌∙◌, arith, eq-eqb, ne_eqb}
 use Rattle.std.proofs.Math.Decide.{dec_lt, ℕ_discrete}
 use Rattle.rules.specs.Word.{bit, unfrozen, permitted}
-use Rattle.rules.specs.Level.{word_distance}
 use Rattle.rules.specs.Folding.{group_no, group, groups}
-use Rattle.rules.specs.Walk.{branch, candidate, candidates}
 use Rattle.laws.specs.Code.Permitted.{permitted-lt, permitted-ones, permitted-zero, permitted_at}
 use Rattle.laws.specs.Numbers.Bits.{bit-add, bit-zero, bit_beyond, bit_ext_below, bit_lt_two, picked, picked_beyond, picked_in, picked_out, small_of_bits}
 use Rattle.laws.specs.Walk.Fillings.{Fills}

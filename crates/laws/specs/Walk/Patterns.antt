@@ -1,12 +1,11 @@
 -- Different fillings of a group have different patterns: so the candidates of a node are in strict order, and any
 -- list in that order with the same members is the same list.
-use Rattle.std.specs.Prelude.{ℕ, suc, ◌+◌, ◌*◌, ◌^◌, ◌≤◌, ◌<◌, ◌≡◌, ◌≢◌}
-use Rattle.std.proofs.Common.{sym, ◌∙◌, ap, arith}
+-- What rests on the statements here stands in proofs/Walk/Patterns.antt.
+use Rattle.std.specs.Prelude.{ℕ, ◌+◌, ◌*◌, ◌<◌, ◌≡◌}
+use Rattle.std.proofs.Common.{arith}
 use mathlib.Core.List.{List, Memᴰ}
-use Rattle.std.proofs.Math.Decide.{ℕ_discrete}
-use Rattle.rules.specs.Word.{bit, code_bit, codeword}
-use Rattle.rules.specs.Folding.{group_no, group}
-use Rattle.rules.specs.Walk.{Candidate, fillings, pattern, candidate, candidates}
+use Rattle.rules.specs.Word.{code_bit}
+use Rattle.rules.specs.Walk.{pattern}
 
 -- equal patterns have equal codeword bits
 pub pattern-bits : (n d e : ℕ) (is : List ℕ) → pattern n d is ≡ pattern n e is → (i : ℕ) → Memᴰ i is → code_bit n d i ≡ code_bit n e i

@@ -8,7 +8,6 @@ use Rattle.rules.specs.Request.{write_order}
 use Rattle.laws.specs.Answers.Orders.{parts, answer_after}
 use Rattle.word.specs.Words.{word_of}
 use Rattle.checks.specs.Passing.{folded_passed, folded_refused_first}
-use borrow.Author.Rules.{rules}
 use Rattle.request.proofs.encoded.Goals as goal
 
 pub returns-in-Refused : goal.returns-in-Refused

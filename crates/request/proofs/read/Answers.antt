@@ -14,12 +14,10 @@ use Rattle.laws.specs.Answers.Orders.{passed, passed_done, refused_so}
 use Rattle.laws.proofs.Answers.Requests.{request_parts}
 use Rattle.word.specs.Words.{word_of}
 use Rattle.code.specs.Reading.{encoded_of}
-use borrow.Author.Rules.{rules}
 use Rattle.request.proofs.read.Goals as goal
 use Rattle.request.proofs.read.Goals.{After-wrong_size, Else-wrong_size, After-encoded-words}
 
 -- ---- the order from each test on
-
 
 abbrev from12 : List ℕ → List (Option Refusal)
 from12 bytes = refuse 12 (not (eqb (number_at bytes 2 2) 0)) ∷ write_order (request_of bytes)

@@ -3,7 +3,6 @@ use Prim.Native.Nat.{ℕ, ◌+◌, ◌≤◌}
 use mathlib.Core.List.{List, ◌++◌}
 use native.Mathlib.Omega.{arith}
 use lib.ListN.{length}
-use borrow.Author.Rules.{rules}
 use Rattle.rules.specs.Request.{Request, bytes_of}
 use Rattle.text.specs.Puts.{Put, put-length, put_then}
 use Rattle.request.specs.Reading.{request_in}

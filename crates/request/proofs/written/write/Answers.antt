@@ -1,7 +1,6 @@
 -- `request::written::write` meets its contract.
 use mathlib.Core.Path.{sym, ◌∙◌, ap}
 use native.Mathlib.Omega.{arith}
-use borrow.Author.Rules.{rules}
 use Rattle.rules.specs.Answers.{Encoded}
 use Rattle.rules.specs.Request.{bytes_of, write_order}
 use Rattle.laws.specs.Answers.Orders.{passed}
