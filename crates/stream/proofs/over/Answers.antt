@@ -24,8 +24,7 @@ loop-next-preserved g c =
     let more = turned_more (size_of program) (size-some program) (shown_of program) input output c.loop-next.number
     (g.R.Read.remaining c.loop-next.streams.input) (g.W.Write.contents c.loop-next.streams.output) left after c.loop-next.invariant.4
     moved.0 moved.1.0 moved.2 (omega (arith, moved.3, moved.4)) moved.1.1
-    in
-    (
+    in (
       search rules,
       search rules,
       search rules,
@@ -45,11 +44,10 @@ returns-in-End g c =
 pub returns-in-NotRead : goal.returns-in-NotRead
 returns-in-NotRead g c =
     let program = c.args.program in
-    let moved = c.in-NotRead.ensures.passes in
-    (
+    let moved = c.in-NotRead.ensures.passes in (
       c.loop-next.invariant.4.0 ++ moved.0,
       turned_cut (size_of program) (size-some program) (shown_of program) (g.R.Read.remaining c.args.streams.now.input)
-      (g.W.Write.contents c.args.streams.now.output) c.loop-next.number (g.R.Read.remaining c.loop-next.streams.input)
-      (g.W.Write.contents c.loop-next.streams.output) (g.R.Read.remaining c.pass.new.streams.input)
-      (g.W.Write.contents c.pass.new.streams.output) c.loop-next.invariant.4 moved.0 moved.1.0 moved.1.1,
+          (g.W.Write.contents c.args.streams.now.output) c.loop-next.number (g.R.Read.remaining c.loop-next.streams.input)
+          (g.W.Write.contents c.loop-next.streams.output) (g.R.Read.remaining c.pass.new.streams.input)
+          (g.W.Write.contents c.pass.new.streams.output) c.loop-next.invariant.4 moved.0 moved.1.0 moved.1.1,
     )

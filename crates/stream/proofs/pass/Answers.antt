@@ -1,11 +1,11 @@
 -- `stream::pass` meets its contract: the bytes that it has read stand at the front of its buffer, and so does what it writes for them.
 use Prim.Native.Nat.{ℕ, ◌+◌, ◌≤◌, ◌<◌}
 use mathlib.Core.Path.{◌≡◌, sym, ap, ◌∙◌}
-use mathlib.Core.Bool.{Bool, true, false}
+use mathlib.Core.Bool.{true, false}
 use mathlib.Core.List.{List, ◌++◌}
 use native.Mathlib.Omega.{arith}
 use lib.ListN.{length, take, drop}
-use lib.Seq.{sets, sets-eq, take-take, length-take-le}
+use lib.Seq.{sets-eq, take-take, length-take-le}
 use Rattle.std.specs.Prelude.{Option}
 use Rattle.std.specs.Io.KnownBytes.{Consumes, Appends}
 use Rattle.std.proofs.Common.{subst, le_refl, rules}
@@ -84,11 +84,10 @@ module _ (program : Program) (number : ℕ) (input left output after : Option (L
   moves_cut : taken ≡ taken_of (size_of program) true got → MovesCut program number input left output after
   moves_cut e =
       let size = size_of program in
-      let long : got ≡ length (take got buffer) = sym (length-take-le got buffer fits) in
-      (
+      let long : got ≡ length (take got buffer) = sym (length-take-le got buffer fits) in (
         take got buffer,
         subst (λ n. Moves program number input left output after (take got buffer) (take n (take got buffer)))
-        (e ∙ ap (taken_of size true) long) (moves (omega (arith, e, taken-le size true got))),
+            (e ∙ ap (taken_of size true) long) (moves (omega (arith, e, taken-le size true got))),
       )
 
 pub returns-in-Some-clause-passes : goal.returns-in-Some-clause-passes
@@ -105,13 +104,12 @@ returns-in-Piece-clause-passes g c =
     let bytes = c.fill-got.new.bytes in
     let fits : got ≤ length bytes = search rules in
     let sound : c.is_some.result ≡ false = search rules in
-    let next = goes-on c.args.program c.args.number got c.in-Piece.next (sym c.after.ensures ∙ c.in-Piece.is) in
-    (
+    let next = goes-on c.args.program c.args.number got c.in-Piece.next (sym c.after.ensures ∙ c.in-Piece.is) in (
       take got bytes,
       moves_all c.args.program c.args.number (g.R.Read.remaining c.args.streams.now.input) (g.R.Read.remaining c.fill-got.new.input)
-      (g.W.Write.contents c.args.streams.now.output) (g.W.Write.contents c.put-2.new.output) bytes got c.taken-taken.result fits
-      c.fill-got.ensures.read c.written-ends.ensures.put c.written-ends.ensures.out_in_bounds.0 c.in_default.ensures
-      (rw sound at c.taken-taken.ensures),
+          (g.W.Write.contents c.args.streams.now.output) (g.W.Write.contents c.put-2.new.output) bytes got c.taken-taken.result fits
+          c.fill-got.ensures.read c.written-ends.ensures.put c.written-ends.ensures.out_in_bounds.0 c.in_default.ensures
+          (rw sound at c.taken-taken.ensures),
       omega (arith, length-take-le got bytes fits, next.0, c.fill-got.ensures.in_bounds, c.bytes.ensures),
       next.1,
       next.2,
@@ -123,13 +121,12 @@ returns-in-End-clause-passes g c =
     let bytes = c.fill-got.new.bytes in
     let fits : got ≤ length bytes = search rules in
     let long = length-take-le got bytes fits in
-    let sound : c.is_some.result ≡ false = search rules in
-    (
+    let sound : c.is_some.result ≡ false = search rules in (
       take got bytes,
       moves_all c.args.program c.args.number (g.R.Read.remaining c.args.streams.now.input) (g.R.Read.remaining c.fill-got.new.input)
-      (g.W.Write.contents c.args.streams.now.output) (g.W.Write.contents c.put-2.new.output) bytes got c.taken-taken.result fits
-      c.fill-got.ensures.read c.written-ends.ensures.put c.written-ends.ensures.out_in_bounds.0 c.in_default.ensures
-      (rw sound at c.taken-taken.ensures),
+          (g.W.Write.contents c.args.streams.now.output) (g.W.Write.contents c.put-2.new.output) bytes got c.taken-taken.result fits
+          c.fill-got.ensures.read c.written-ends.ensures.put c.written-ends.ensures.out_in_bounds.0 c.in_default.ensures
+          (rw sound at c.taken-taken.ensures),
       omega (arith, long, c.fill-got.ensures.in_bounds, c.bytes.ensures),
       (λ short. c.fill-got.ensures.end (omega (arith, long, short, c.bytes.ensures)) (search rules)),
       (λ whole. ends-last c.args.program c.args.number got (sym c.after.ensures ∙ c.in-End.is) (omega (arith, long, whole))),
