@@ -1,5 +1,6 @@
 // A program over the records on standard input: what it writes for each goes to standard output and to standard error, to the end of
-// the input or of the record numbers. All but the calls of the system is in piece.rt, each step with its contract.
+// the input or of the record numbers. It is written over any reader and writers, and where their bytes are known its contract says
+// which were read and which were written; `run` hands it those of the system.
 #![tactic(auto)]
 
 mod calls; // calls.rt: reading and writing, and what is said of a failure
@@ -72,7 +73,7 @@ enum Ended {
     NotWritten(io::Error),
 }
 
-// The program over its streams, piece after piece.
+// The program over its streams, piece after piece: at its end it has written what the rules say of the whole input.
 fn over<R: Read, W: Write, E: Write>(program: Program, streams: &mut Streams<R, W, E>) -> Ended
     ensures { Runs program (R.remaining streams.old.input) (R.remaining streams.new.input)
         (W.contents streams.old.output) (W.contents streams.new.output) result }
