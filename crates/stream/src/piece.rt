@@ -70,9 +70,9 @@ pub fn written(
     said: &mut [u8],
 ) -> Ends
     requires { (taken ≤ length bytes.now) × (taken ≤ piece_records * size_of program) × (most_room ≤ length out.old) × (most_said ≤ length said.old) }
-    ensures put { Put out.old 0 (shown_from program number (take taken bytes.now)) result.out out.new }
-    ensures put_2 { Put said.old 0 (said_from program number (take taken bytes.now)) result.said said.new }
-    ensures out_in_bounds { (result.out ≤ length out.old) × (result.said ≤ length said.old) }
+    ensures shown { Put out.old 0 (shown_from program number (take taken bytes.now)) result.out out.new }
+    ensures told { Put said.old 0 (said_from program number (take taken bytes.now)) result.said said.new }
+    ensures within { (result.out ≤ length out.old) × (result.said ≤ length said.old) }
 {
     match pieces::write(program, &bytes[..taken], number, out, said) {
         Written::Bytes(shown, told) => Ends {

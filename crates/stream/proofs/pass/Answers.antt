@@ -95,7 +95,7 @@ returns-in-Some-clause-passes g c =
     let failed : c.is_some.result ≡ true = search rules in
     moves_cut c.args.program c.args.number (g.R.Read.remaining c.args.streams.now.input) (g.R.Read.remaining c.fill-got.new.input)
     (g.W.Write.contents c.args.streams.now.output) (g.W.Write.contents c.put-2.new.output) c.fill-got.new.bytes c.fill-got.result.len
-    c.taken-taken.result (search rules) c.fill-got.ensures.read c.written-ends.ensures.put c.written-ends.ensures.out_in_bounds.0
+    c.taken-taken.result (search rules) c.fill-got.ensures.read c.written-ends.ensures.shown c.written-ends.ensures.within.0
     c.in_default.ensures (rw failed at c.taken-taken.ensures)
 
 pub returns-in-Piece-clause-passes : goal.returns-in-Piece-clause-passes
@@ -108,7 +108,7 @@ returns-in-Piece-clause-passes g c =
       take got bytes,
       moves_all c.args.program c.args.number (g.R.Read.remaining c.args.streams.now.input) (g.R.Read.remaining c.fill-got.new.input)
           (g.W.Write.contents c.args.streams.now.output) (g.W.Write.contents c.put-2.new.output) bytes got c.taken-taken.result fits
-          c.fill-got.ensures.read c.written-ends.ensures.put c.written-ends.ensures.out_in_bounds.0 c.in_default.ensures
+          c.fill-got.ensures.read c.written-ends.ensures.shown c.written-ends.ensures.within.0 c.in_default.ensures
           (rw sound at c.taken-taken.ensures),
       omega (arith, length-take-le got bytes fits, next.0, c.fill-got.ensures.in_bounds, c.bytes.ensures),
       next.1,
@@ -125,7 +125,7 @@ returns-in-End-clause-passes g c =
       take got bytes,
       moves_all c.args.program c.args.number (g.R.Read.remaining c.args.streams.now.input) (g.R.Read.remaining c.fill-got.new.input)
           (g.W.Write.contents c.args.streams.now.output) (g.W.Write.contents c.put-2.new.output) bytes got c.taken-taken.result fits
-          c.fill-got.ensures.read c.written-ends.ensures.put c.written-ends.ensures.out_in_bounds.0 c.in_default.ensures
+          c.fill-got.ensures.read c.written-ends.ensures.shown c.written-ends.ensures.within.0 c.in_default.ensures
           (rw sound at c.taken-taken.ensures),
       omega (arith, long, c.fill-got.ensures.in_bounds, c.bytes.ensures),
       (λ short. c.fill-got.ensures.end (omega (arith, long, short, c.bytes.ensures)) (search rules)),
