@@ -49,9 +49,6 @@ module _ (z w : ℤ) (f : SFits w32 z) (g : SFits w32 w) (h : nat_abs z ≤ limi
   gap-le : nat_abs (z -ℤ w) ≤ limit + 256
   gap-le = abs-add z (neg_ℤ w) h (rw (abs_neg w) l)
 
-  gap-fits : SFits w32 (to_z w32 (of_z w32 z) -ℤ to_z w32 (of_z w32 w))
-  gap-fits = rw (to_z-of_z w32 z f, to_z-of_z w32 w g) (fits (z -ℤ w) (omega (arith, gap-le)))
-
   gap-read : to_z w32 (of_z w32 (to_z w32 (of_z w32 z) -ℤ to_z w32 (of_z w32 w))) ≡ z -ℤ w
   gap-read = rw (to_z-of_z w32 z f, to_z-of_z w32 w g) (to_z-of_z w32 (z -ℤ w) (fits (z -ℤ w) (omega (arith, gap-le))))
 
