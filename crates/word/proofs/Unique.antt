@@ -1,22 +1,23 @@
 -- No second answer: of each public function, two results that meet its contract are equal.
 -- The contracts are those of src/ themselves, as the check reads them: a weaker one has no such theorem.
 use Rattle.laws.specs.Answers.OneAnswer.{OneResult, one_answer}
-use Rattle.word.specs.Unique.{word_injective, fewest_injective}
-use Rattle.word.proofs.none.Reads as none
-use Rattle.word.proofs.of.Reads as of
-use Rattle.word.proofs.low.Reads as low
+use Rattle.word.specs.Options.{option_injective}
+use Rattle.word.specs.Unique.{word_injective}
+use Rattle.word.proofs.Word.none.Reads as none
+use Rattle.word.proofs.WordFromU64.from.Reads as of
+use Rattle.word.proofs.U64FromWord.from.Reads as low
 use Rattle.word.proofs.wrong_size.Reads as wrong_size
 use Rattle.word.proofs.slots.Reads as slots
-use Rattle.word.proofs.bit.Reads as bit
-use Rattle.word.proofs.xor.Reads as xor
-use Rattle.word.proofs.common.Reads as common
-use Rattle.word.proofs.less.Reads as less
-use Rattle.word.proofs.place.single.Reads as single
-use Rattle.word.proofs.place.above.Reads as above
-use Rattle.word.proofs.place.copies.Reads as copies
-use Rattle.word.proofs.count.ones.Reads as ones
+use Rattle.word.proofs.Word.bit.Reads as bit
+use Rattle.word.proofs.WordBitXor.bitxor.Reads as xor
+use Rattle.word.proofs.WordBitAnd.bitand.Reads as common
+use Rattle.word.proofs.Word.less.Reads as less
+use Rattle.word.proofs.Word.single.Reads as single
+use Rattle.word.proofs.Word.above.Reads as above
+use Rattle.word.proofs.Word.copies.Reads as copies
+use Rattle.word.proofs.Word.ones.Reads as ones
 use Rattle.word.proofs.count.folding_size.Reads as folding_size
-use Rattle.word.proofs.count.reaches.Reads as reaches
+use Rattle.word.proofs.Word.reaches.Reads as reaches
 use Rattle.word.proofs.count.unfrozen.Reads as unfrozen
 use Rattle.word.proofs.count.fewest_ones.Reads as fewest_ones
 
@@ -69,4 +70,4 @@ pub unfrozen_unique : OneResult unfrozen.Learnt
 unfrozen_unique κs a r s v w p q = one_answer p q
 
 pub fewest_ones_unique : OneResult fewest_ones.Learnt
-fewest_ones_unique κs a r s v w p q = fewest_injective r s (one_answer p q)
+fewest_ones_unique κs a r s v w p q = option_injective r s (one_answer p q)

@@ -1,3 +1,4 @@
+pub mod Options
 pub mod Words
 pub mod Tables
 pub mod Unique

@@ -1,10 +1,10 @@
 // Words with a bit for each slot of the largest block: from numbers and back, a bit, sums modulo 2, common ones and comparison;
 // below, counts, single ones, and words moved up and copied.
-// Every public function but `place::copies` is total, and every contract reads a word through `word_of`.
+// Every public function but `Word::copies` is total, and every contract reads a word through `word_of`.
 #![tactic(auto)]
 
 pub mod count;
-pub mod place;
+mod place; // place.rt: a single one, a word moved up, and copies
 
 ghost use Rattle.std.specs.Prelude.{◌≡◌, ◌^◌, ltb};
 ghost use Rattle.std.specs.Int.Bits.{bit_and, bit_xor};
@@ -12,35 +12,19 @@ ghost use Rattle.rules.specs.Word as rules;
 ghost use Rattle.rules.specs.Refusals.{is_wrong_size};
 ghost use Rattle.word.specs.Words.{word_of, size_of};
 
+use std::ops::{BitAnd, BitXor};
+
 // A word: bit i stands for index i.
-pub type Word = u64;
+#[derive(Clone, Copy, Debug, PartialEq, Eq)]
+pub struct Word {
+    bits: u64,
+}
 
 // The largest n.
 pub const LARGEST: u32 = 6;
 
 // How many bits a word has, as many as the largest block has slots.
 pub const SLOTS: usize = 64;
-
-// The word with no one.
-pub fn none() -> Word
-    ensures { word_of result ≡ 0 }
-{
-    0
-}
-
-// The word of a number.
-pub fn of(number: u64) -> Word
-    ensures { word_of result ≡ number }
-{
-    number
-}
-
-// The number of a word.
-pub fn low(w: Word) -> u64
-    ensures { result ≡ word_of w }
-{
-    w
-}
 
 // Whether n is not 1..6.
 pub fn wrong_size(n: u32) -> bool
@@ -56,30 +40,73 @@ pub fn slots(n: u32) -> usize
     if n < LARGEST { 1 << n } else { SLOTS }
 }
 
-// Bit i, 0 past the word.
-pub fn bit(w: Word, i: usize) -> u32
-    ensures { result ≡ rules.bit (word_of w) i }
-{
-    if i < SLOTS { ((w >> i) % 2) as u32 } else { 0 }
+impl Word {
+    // The word with no one.
+    pub fn none() -> Word
+        ensures { word_of result ≡ 0 }
+    {
+        Word { bits: 0 }
+    }
+
+    // Bit i, 0 past the word.
+    pub fn bit(self, i: usize) -> u32
+        ensures { result ≡ rules.bit (word_of self) i }
+    {
+        if i < SLOTS {
+            ((self.bits >> i) % 2) as u32
+        } else {
+            0
+        }
+    }
+
+    // Whether this word is the smaller number.
+    pub fn less(self, other: Word) -> bool
+        ensures { result ≡ ltb (word_of self) (word_of other) }
+    {
+        self.bits < other.bits
+    }
+}
+
+// The word of a number.
+impl From<u64> for Word {
+    ghost from_gives = { λ number r. word_of r ≡ number };
+
+    fn from(number: u64) -> Word {
+        Word { bits: number }
+    }
+}
+
+// The number of a word.
+impl From<Word> for u64 {
+    ghost from_gives = { λ w r. r ≡ word_of w };
+
+    fn from(w: Word) -> u64 {
+        w.bits
+    }
 }
 
 // The sum of two words, bit by bit modulo 2.
-pub fn xor(a: Word, b: Word) -> Word
-    ensures { word_of result ≡ bit_xor (word_of a) (word_of b) }
-{
-    a ^ b
+impl BitXor for Word {
+    type Output = Word;
+
+    ghost bitxor_gives = { λ a b r. word_of r ≡ bit_xor (word_of a) (word_of b) };
+
+    fn bitxor(self, other: Word) -> Word {
+        Word {
+            bits: self.bits ^ other.bits,
+        }
+    }
 }
 
 // The ones that two words have in common.
-pub fn common(a: Word, b: Word) -> Word
-    ensures { word_of result ≡ bit_and (word_of a) (word_of b) }
-{
-    a & b
-}
+impl BitAnd for Word {
+    type Output = Word;
 
-// Whether a is the smaller number.
-pub fn less(a: Word, b: Word) -> bool
-    ensures { result ≡ ltb (word_of a) (word_of b) }
-{
-    a < b
+    ghost bitand_gives = { λ a b r. word_of r ≡ bit_and (word_of a) (word_of b) };
+
+    fn bitand(self, other: Word) -> Word {
+        Word {
+            bits: self.bits & other.bits,
+        }
+    }
 }

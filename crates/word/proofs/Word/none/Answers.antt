@@ -1,7 +1,7 @@
--- `word::none` meets its contract.
+-- `Word::none` meets its contract.
 use mathlib.Core.Path.{refl}
 use Rattle.word.specs.Words.{word_of}
-use Rattle.word.proofs.none.Goals as goal
+use Rattle.word.proofs.Word.none.Goals as goal
 
 pub returns : goal.returns
 unfolding word_of

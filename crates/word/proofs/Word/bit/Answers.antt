@@ -1,9 +1,10 @@
--- `word::place::above` meets its contract: past the word nothing is left.
+-- `Word::bit` meets its contract: past the word every bit is 0.
 use mathlib.Core.Path.{sym}
+use native.Mathlib.Omega.{arith}
 use borrow.Author.Rules.{rules}
+use Rattle.laws.specs.Numbers.Bits.{bit_beyond}
 use Rattle.word.specs.Words.{word_of}
-use Rattle.word.proofs.Shifts.{past_word}
-use Rattle.word.proofs.place.above.Goals as goal
+use Rattle.word.proofs.Word.bit.Goals as goal
 
 pub returns-then-i-lt-SLOTS : goal.returns-then-i-lt-SLOTS
 unfolding word_of
@@ -11,4 +12,4 @@ returns-then-i-lt-SLOTS c = search rules
 
 pub returns-else-i-lt-SLOTS : goal.returns-else-i-lt-SLOTS
 unfolding word_of
-returns-else-i-lt-SLOTS c = sym (past_word c.args.w c.args.i c.if-i-lt-SLOTS.false)
+returns-else-i-lt-SLOTS c = sym (bit_beyond {k = 64} (omega arith) (omega arith))

@@ -1,7 +1,7 @@
--- `word::less` meets its contract.
+-- `Word::bitxor` meets its contract.
 use borrow.Author.Rules.{rules}
 use Rattle.word.specs.Words.{word_of}
-use Rattle.word.proofs.less.Goals as goal
+use Rattle.word.proofs.WordBitXor.bitxor.Goals as goal
 
 pub returns : goal.returns
 unfolding word_of

@@ -1,4 +1,4 @@
--- `word::count::slot_bits` meets its contract.
+-- `Word::slot_bits` meets its contract.
 use Prim.Native.Nat.{◌^◌}
 use mathlib.Core.Path.{◌≡◌, sym}
 use native.Mathlib.Nat.{mod-eq_of_lt}
@@ -6,7 +6,7 @@ use native.Mathlib.Omega.{arith}
 use lib.Pow.{pow_pos}
 use Rattle.word.specs.Words.{word_of, size_of}
 use Rattle.word.proofs.Shifts.{one_shifted, slots_le}
-use Rattle.word.proofs.count.slot_bits.Goals as goal
+use Rattle.word.proofs.Word.slot_bits.Goals as goal
 
 pub nonzero_rem-result : goal.nonzero_rem-result
 nonzero_rem-result c = rw (one_shifted _ c.if-slots-lt-SLOTS.true) (pow_pos _)

@@ -1,7 +1,7 @@
--- `word::xor` meets its contract.
+-- `Word::ones` meets its contract.
 use borrow.Author.Rules.{rules}
 use Rattle.word.specs.Words.{word_of}
-use Rattle.word.proofs.xor.Goals as goal
+use Rattle.word.proofs.Word.ones.Goals as goal
 
 pub returns : goal.returns
 unfolding word_of

@@ -1,10 +1,10 @@
--- `word::place::single` meets its contract: past the word nothing is left.
+-- `Word::single` meets its contract: past the word nothing is left.
 use mathlib.Core.Path.{sym, ap, ◌∙◌}
 use Prim.Native.Nat.{ℕ, ◌%◌, ◌^◌}
 use native.Mathlib.Nat.{one-mul}
 use Rattle.word.specs.Words.{word_of}
 use Rattle.word.proofs.Shifts.{past_word}
-use Rattle.word.proofs.place.single.Goals as goal
+use Rattle.word.proofs.Word.single.Goals as goal
 
 pub returns-then-i-lt-SLOTS : goal.returns-then-i-lt-SLOTS
 unfolding word_of

@@ -1,7 +1,7 @@
--- `word::count::ones` meets its contract.
+-- `Word::less` meets its contract.
 use borrow.Author.Rules.{rules}
 use Rattle.word.specs.Words.{word_of}
-use Rattle.word.proofs.count.ones.Goals as goal
+use Rattle.word.proofs.Word.less.Goals as goal
 
 pub returns : goal.returns
 unfolding word_of

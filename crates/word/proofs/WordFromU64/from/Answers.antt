@@ -1,0 +1,8 @@
+-- The word of a number meets its contract.
+use borrow.Author.Rules.{rules}
+use Rattle.word.specs.Words.{word_of}
+use Rattle.word.proofs.WordFromU64.from.Goals as goal
+
+pub returns : goal.returns
+unfolding word_of
+returns c = search rules

@@ -1,8 +1,0 @@
--- `word::low` meets its contract.
-use mathlib.Core.Path.{refl}
-use Rattle.word.specs.Words.{word_of}
-use Rattle.word.proofs.low.Goals as goal
-
-pub returns : goal.returns
-unfolding word_of
-returns c = refl
