@@ -1,2 +1,4 @@
 pub mod Number
+pub mod Printed
+pub mod Results
 pub mod Unique

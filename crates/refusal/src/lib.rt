@@ -1,10 +1,14 @@
 // The refusals of document 01 as one enum: a case for each number, holding the slot, level or sample that it names.
 #![tactic(auto)]
 
-ghost use Rattle.std.specs.Prelude.{◌≡◌};
+ghost use Rattle.std.specs.Prelude.{◌≡◌, Some};
 ghost use Rattle.refusal.specs.Number.{number_of};
+ghost use Rattle.refusal.specs.Printed.{printed};
 
-#[derive(Clone, Copy)]
+use std::error::Error;
+use std::fmt;
+
+#[derive(Clone, Copy, Debug, PartialEq, Eq)]
 pub enum Refusal {
     // 1: n is not 1..6, or an assembler has such an n or more than N slots filled
     Size,
@@ -36,24 +40,43 @@ pub enum Refusal {
     NotFull,
 }
 
-// Document 01's number of a refusal.
-pub fn number(r: Refusal) -> u32
-    ensures { result ≡ number_of r }
-{
-    match r {
-        Refusal::Size => 1,
-        Refusal::Length => 2,
-        Refusal::Mask => 3,
-        Refusal::Folding => 4,
-        Refusal::WideFolding => 5,
-        Refusal::Range(_) => 6,
-        Refusal::NoCandidate(_) => 7,
-        Refusal::Allowance => 8,
-        Refusal::Message => 9,
-        Refusal::NoRoom => 10,
-        Refusal::NotFinite(_) => 11,
-        Refusal::NotZero => 12,
-        Refusal::Short => 13,
-        Refusal::NotFull => 14,
+impl Refusal {
+    // Document 01's number of a refusal.
+    pub fn number(self) -> u32
+        ensures { result ≡ number_of self }
+    {
+        match self {
+            Refusal::Size => 1,
+            Refusal::Length => 2,
+            Refusal::Mask => 3,
+            Refusal::Folding => 4,
+            Refusal::WideFolding => 5,
+            Refusal::Range(_) => 6,
+            Refusal::NoCandidate(_) => 7,
+            Refusal::Allowance => 8,
+            Refusal::Message => 9,
+            Refusal::NoRoom => 10,
+            Refusal::NotFinite(_) => 11,
+            Refusal::NotZero => 12,
+            Refusal::Short => 13,
+            Refusal::NotFull => 14,
+        }
     }
 }
+
+// A refusal by its number, and the slot, level or sample that it names.
+impl fmt::Display for Refusal {
+    ghost output = { λ r. Some (printed r) };
+
+    fn fmt<W: fmt::Write>(&self, f: &mut fmt::Formatter<W>) -> fmt::Result {
+        let number = self.number();
+        match self {
+            Refusal::Range(slot) => write!(f, "refused {number} slot {slot}"),
+            Refusal::NoCandidate(level) => write!(f, "refused {number} level {level}"),
+            Refusal::NotFinite(sample) => write!(f, "refused {number} sample {sample}"),
+            _ => write!(f, "refused {number}"),
+        }
+    }
+}
+
+impl Error for Refusal {}
