@@ -1,15 +1,13 @@
 -- A verdict as an answer of the rules, and what each check answers: the first refusal of its order, or nothing more.
-use Rattle.std.specs.Prelude.{ℕ}
-use Rattle.rules.specs.Refusals.{Answer, refused, done, answer}
+use Rattle.std.specs.Prelude.{ℕ, Result}
+use Rattle.rules.specs.Refusals.{Answer, answer}
 use Rattle.rules.specs.Orders.{code_order, folded_order}
-use Rattle.refusal.specs.Number.{refusal_of}
-use Rattle.checks.specs.declared.Verdict.{Verdict}
-use Rattle.checks.specs.declared.Verdict.TheVariants.{Right, Refused}
+use Rattle.refusal.specs.declared.Refusal.{Refusal}
+use Rattle.refusal.specs.Results.{answer_by}
 
 -- a verdict as an answer of the rules, whose success says nothing
-abbrev pub verdict_of : Verdict → Answer (Unit {0})
-verdict_of Right = done tt
-verdict_of (Refused r) = refused (refusal_of r)
+abbrev pub verdict_of : Result (Unit {0}) Refusal → Answer (Unit {0})
+verdict_of = answer_by (λ success. success)
 
 -- of an n and a mask: 1, 3
 unfoldable pub code_verdict : ℕ → ℕ → Answer (Unit {0})
