@@ -59,7 +59,7 @@ impl Word {
         }
     }
 
-    // Whether this word is the smaller number.
+    // Whether this word is the smaller number. Not a derived order: the must-fail edits `less_turned` and `less_or_equal` have their place here.
     pub fn less(self, other: Word) -> bool
         ensures { result ≡ ltb (word_of self) (word_of other) }
     {
