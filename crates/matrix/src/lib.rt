@@ -62,5 +62,5 @@ pub fn map(w: Word) -> Word
     ensures { word_of result ≡ codeword largest (word_of w) }
 {
     let table = bytes();
-    word::of(map64(&table, word::low(w)))
+    Word::from(map64(&table, u64::from(w)))
 }

@@ -30,17 +30,15 @@ fn turned(n: u32, frozen: Word, w: Word, packs: bool) -> Word
     let slots = word::slots(n);
     let mut r: u64 = 0;
     let mut place = 0;
-    let mut i = 0;
-    while i < slots {
-        if word::bit(frozen, i) == 0 {
+    for i in 0..slots {
+        if frozen.bit(i) == 0 {
             let from = either(packs, i, place);
             let to = either(packs, place, i);
-            r += moved(word::bit(w, from), to);
+            r += moved(w.bit(from), to);
             place += 1;
         }
-        i += 1;
     }
-    word::of(r)
+    Word::from(r)
 }
 
 // The information word of a message: its bits at the unfrozen indices in turn.

@@ -1,5 +1,5 @@
 -- `message::turned` meets its contract. Invariant: the bits of the unfrozen indices below i have been moved.
-use Prim.Native.Nat.{ℕ, ◌-◌, ◌≤◌}
+use Prim.Native.Nat.{ℕ, ◌≤◌}
 use mathlib.Core.Bool.{Bool}
 use Rattle.rules.specs.Word.{bit}
 use Rattle.word.specs.Words.{word_of}
@@ -12,7 +12,4 @@ Turned frozen w packs = Moved frozen (λ j. bit w (source packs frozen j)) (targ
 
 abbrev pub invariant-loop-i : goal.invariant-loop-i
 invariant-loop-i l =
-    (l.i ≤ l.slots) × (l.place ≤ l.i) × Turned (word_of l.frozen) (word_of l.w) l.packs l.i l.r l.place
-
-abbrev pub decreases-loop-i : goal.decreases-loop-i
-decreases-loop-i l = l.slots - l.i
+    (l.place ≤ l.i) × Turned (word_of l.frozen) (word_of l.w) l.packs l.i l.r l.place
