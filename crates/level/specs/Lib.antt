@@ -1,3 +1,4 @@
 pub mod Range
+pub mod Printed
 pub mod Measuring
 pub mod Unique

@@ -1,18 +1,17 @@
 -- How contracts read the distance of a word from the levels of a block: refusal 6 with the first slot out of range, or the distance.
-use Rattle.std.specs.Prelude.{ℕ, ◌^◌, ◌≤◌, min, ◌≡◌, not, List, [], ◌∷◌, ℤ, length}
+use Rattle.std.specs.Prelude.{ℕ, ◌^◌, ◌≤◌, min, ◌≡◌, not, List, [], ◌∷◌, ℤ, length, Result, Ok, Err}
 use Rattle.std.proofs.Math.Nat.{min-eq_left}
 use Rattle.std.proofs.Common.{pow_mono}
 use Rattle.rules.specs.Below.{sum_below, first_below}
 use Rattle.rules.specs.Word.{bit}
 use Rattle.rules.specs.Level.{in_range, level_at, level_cost, distance}
 use Rattle.rules.specs.Refusals.{Answer, refused, done, answer, refuse_at, out_of_range, largest}
-use Rattle.level.specs.declared.Measured.{Measured}
-use Rattle.level.specs.declared.Measured.TheVariants.{Distance, OutOfRange}
+use Rattle.level.specs.declared.OutOfRange.{OutOfRange}
 
 -- the distance, or refusal 6, which names the slot
-abbrev pub measured_of : Measured → Answer ℕ
-measured_of (Distance d) = done d
-measured_of (OutOfRange i) = refused (record { number = 6; values = i ∷ [] })
+abbrev pub measured_of : Result ℕ OutOfRange → Answer ℕ
+measured_of (Ok d) = done d
+measured_of (Err out) = refused (record { number = 6; values = out.slot ∷ [] })
 
 -- over the first so many slots: refusal 6, or the sum of the costs of the word's bits
 unfoldable pub measured_below : ℕ → List ℤ → ℕ → Answer ℕ

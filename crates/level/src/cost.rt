@@ -1,31 +1,18 @@
 // What a slot costs at each bit, for every level: the cost of the nearer bit, and what the farther bit costs more.
 // No step branches on what was received but to choose one of two numbers.
-ghost use Rattle.std.specs.Prelude.{◌≡◌, cond, ◌+◌, ◌-◌, ◌*◌};
+ghost use Rattle.std.specs.Prelude.{◌≡◌, ◌*◌};
 ghost use Rattle.rules.specs.Level.{slot_cost};
 ghost use Rattle.laws.specs.Distance.Excess.{nearest, excess};
 
 use crate::{Slot, magnitude};
-
-// How far two numbers are apart.
-fn apart(a: u32, b: u32) -> u32
-    ensures { result ≡ a - b + (b - a) }
-{
-    if a < b { b - a } else { a - b }
-}
+use std::hint::select_unpredictable;
 
 // The square of a number.
 fn square(a: u32) -> u64
     ensures { result ≡ a * a }
 {
-    let wide = a as u64;
+    let wide = u64::from(a);
     wide * wide
-}
-
-// One of two numbers, by a test.
-fn pick(test: bool, a: u32, b: u32) -> u32
-    ensures { result ≡ cond test a b }
-{
-    if test { a } else { b }
 }
 
 // What a slot with that level costs.
@@ -34,9 +21,9 @@ pub fn slot(level: i32) -> Slot
 {
     let m = magnitude(level);
     Slot {
-        nearest: square(apart(m, 256)),
-        zero: pick(0 < level, m, 0),
-        one: pick(level < 0, m, 0),
+        nearest: square(m.abs_diff(256)),
+        zero: select_unpredictable(0 < level, m, 0),
+        one: select_unpredictable(level < 0, m, 0),
     }
 }
 
@@ -45,5 +32,5 @@ pub(crate) fn bit_cost(level: i32, b: u32) -> u64
     ensures { result ≡ slot_cost level b }
 {
     let s = slot(level);
-    s.nearest + 1024 * pick(b == 0, s.zero, s.one) as u64
+    s.nearest + 1024 * u64::from(select_unpredictable(b == 0, s.zero, s.one))
 }

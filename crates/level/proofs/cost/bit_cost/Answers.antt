@@ -1,6 +1,6 @@
 -- `level::cost::bit_cost` meets its contract: the cost of any bit of any 32-bit number is below 2^63.
 use Prim.Native.Nat.{ℕ, zero, suc, ◌^◌, ◌≤◌}
-use mathlib.Core.Path.{◌≡◌, refl}
+use mathlib.Core.Path.{◌≡◌, refl, ◌∙◌}
 use mathlib.Core.Bool.{cond}
 use native.Mathlib.Nat.{mul-le-mul}
 use native.Mathlib.Omega.{arith}
@@ -39,5 +39,5 @@ returns c =
     let z = c.args.level in
     let b = c.args.b in
     let near = c.slot-s.ensures in
-    let pick = c.pick.ensures in
+    let pick = c.from.ensures ∙ c.select_unpredictable.ensures in
     rw (pick, near.0, near.1, near.2, to_z-of_z w32 z c.ranges.level, excess-picked z b, cost_split z b)

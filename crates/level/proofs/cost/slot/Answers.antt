@@ -16,8 +16,8 @@ returns c =
     let z = c.args.level in
     let read = to_z-of_z w32 z c.ranges.level in
     let m = c.magnitude-m.ensures ∙ ap nat_abs read in
-    let near = c.apart.ensures ∙ ap beside m in (
+    let near = c.abs_diff.ensures ∙ ap beside m in (
       c.square.ensures ∙ ap₂ ◌*◌ near near,
-      c.pick.ensures ∙ ap₂ (λ (y : ℤ) (x : ℕ). cond (lt_z (pos 0) y) x 0) read m ∙ picked-zero z,
-      c.pick-2.ensures ∙ ap₂ (λ (y : ℤ) (x : ℕ). cond (lt_z y (pos 0)) x 0) read m ∙ picked_one z,
+      c.select_unpredictable.ensures ∙ ap₂ (λ (y : ℤ) (x : ℕ). cond (lt_z (pos 0) y) x 0) read m ∙ picked-zero z,
+      c.select_unpredictable-2.ensures ∙ ap₂ (λ (y : ℤ) (x : ℕ). cond (lt_z y (pos 0)) x 0) read m ∙ picked_one z,
     )
