@@ -1,5 +1,7 @@
 // Parts of lines put into a lent buffer from a place on: bytes, a number in decimal, hexadecimal digits. Each answers the place
 // behind. A caller proves that the buffer has room.
+// The buffer and the place stay two parameters. A struct that holds both has to promise in each of its methods, beside what is put,
+// that it still lends the caller's buffer, and each caller makes it and takes it apart again: that is no plainer.
 #![tactic(auto)]
 
 ghost use Rattle.std.specs.Prelude.{◌≡◌, ◌++◌, ◌+◌, ◌≤◌, ◌<◌, length};
@@ -11,19 +13,20 @@ fn digit(v: u64) -> u8
     requires { v < 16 }
     ensures { result ≡ rules.digit v }
 {
-    if v < 10 { 48 + v as u8 } else { 87 + v as u8 }
+    if v < 10 {
+        b'0' + v as u8
+    } else {
+        b'a' + (v - 10) as u8
+    }
 }
 
 // Bytes as they are.
+#[tactic(auto, using(crate::proofs::Copied::put_copied))]
 pub fn bytes(out: &mut [u8], at: usize, bytes: &[u8]) -> usize
     requires { at + length bytes.now ≤ length out.old }
     ensures { Put out.old at bytes.now result out.new }
 {
-    let mut i = 0;
-    while i < bytes.len() {
-        out[at + i] = bytes[i];
-        i += 1;
-    }
+    out[at..at + bytes.len()].copy_from_slice(bytes);
     at + bytes.len()
 }
 
@@ -56,10 +59,8 @@ pub fn hex(out: &mut [u8], at: usize, v: u64) -> usize
     requires { at + 16 ≤ length out.old }
     ensures { Put out.old at (rules.hex 16 v) result out.new }
 {
-    let mut i = 0;
-    while i < 16 {
+    for i in 0..16 {
         out[at + i] = digit((v >> (60 - 4 * i)) % 16);
-        i += 1;
     }
     at + 16
 }

@@ -1,20 +1,17 @@
 -- `text::hex` meets its contract. Invariant: the highest i digits are put.
 use Prim.Native.Nat.{suc, ◌+◌, ◌-◌, ◌*◌, ◌/◌, ◌%◌, ◌^◌}
 use mathlib.Core.Path.{◌≡◌}
-use native.Mathlib.Nat.{add-zero, div-one}
+use native.Mathlib.Nat.{add-zero}
 use native.Mathlib.Numerals.{add-one}
 use native.Mathlib.Omega.{arith}
 use Rattle.rules.specs.Text.{digit, hex}
 use Rattle.laws.specs.Numbers.Digits.{hex_more, sixteens}
-use Rattle.text.specs.Puts.{put_none, put-length, put_byte}
+use Rattle.text.specs.Puts.{put_none, put_byte}
 use Rattle.text.proofs.hex.Goals as goal
 
 pub loop-i-init : goal.loop-i-init
 unfolding hex
-loop-i-init c = (omega arith, rw add-zero (put_none _ _))
-
-pub bounds-out-at : goal.bounds-out-at
-bounds-out-at c = omega (arith, put-length c.loop-i.invariant.1)
+loop-i-init c = rw add-zero (put_none _ _)
 
 pub loop-i-preserved : goal.loop-i-preserved
 loop-i-preserved c =
@@ -26,12 +23,4 @@ loop-i-preserved c =
     let after : 16 - (i + 1) ≡ k = omega arith in
     let shift : 60 - 4 * i ≡ 4 * k = omega arith in
     let shown : c.digit.result ≡ digit (args.v / 2 ^ (60 - 4 * i) % 16) = c.digit.ensures in
-    (omega arith, rw (next, after, add-one i, hex_more i k args.v, shown, shift, sixteens k) (put_byte (rw before at c.loop-i.invariant.1) _))
-
-pub shape_of-out : goal.shape_of-out
-shape_of-out c = put-length c.loop-i.invariant.1
-
-pub returns : goal.returns
-returns c =
-    let all : c.loop-i.i ≡ 16 = omega arith in
-    rw (all, div-one) at c.loop-i.invariant.1
+    rw (next, after, add-one i, hex_more i k args.v, shown, shift, sixteens k) (put_byte (rw before at c.loop-i.invariant) _)
