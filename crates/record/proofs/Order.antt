@@ -1,17 +1,18 @@
--- The order of reading, 13, 1, 12 and then the tests of the code and the folding, from each of its tests on, and what an answer has
--- to be once they are known.
-use Prim.Native.Nat.{ℕ, ◌^◌}
-use mathlib.Core.Path.{◌≡◌, ap}
-use mathlib.Core.Bool.{not}
+-- The order of reading, 13, 1, 12 and then the tests of the code and the folding, from each of its tests on, and what the rules still
+-- answer after each test that was passed.
+use Prim.Native.Nat.{ℕ, ◌^◌, ◌≤◌}
+use mathlib.Core.Path.{◌≡◌, ◌∙◌}
+use mathlib.Core.Bool.{true, false, not}
 use mathlib.Core.Option.{Option}
 use mathlib.Core.List.{List, ◌∷◌}
 use lib.Dec.{ltb}
 use lib.ListN.{length}
-use Rattle.rules.specs.Refusals.{Refusal, Answer, refused, done, answer, left, refuse, is_wrong_size}
+use borrow.Author.Tests.{le-ltb}
+use Rattle.rules.specs.Refusals.{Refusal, answer, refuse, is_wrong_size}
 use Rattle.rules.specs.Orders.{folded_order}
-use Rattle.rules.specs.Record.{Fields, number_at, record_bytes, fields_of, not_zero, read_answer}
+use Rattle.rules.specs.Record.{number_at, record_bytes, fields_of, not_zero, read_answer}
 use Rattle.laws.specs.Answers.Records.{read_parts}
-use Rattle.record.specs.Reading.{no_fields, zeros_at}
+use Rattle.record.specs.Reading.{zeros_at}
 
 -- what the tests are of
 abbrev pub size_at : List ℕ → ℕ
@@ -33,18 +34,19 @@ from12 bytes = refuse 12 (not (zeros_at bytes (2 ^ size_at bytes))) ∷ from_cod
 abbrev pub from1 : List ℕ → List (Option Refusal)
 from1 bytes = refuse 1 (is_wrong_size (size_at bytes)) ∷ from12 bytes
 
-module _ (bytes : List ℕ) where
-  -- the whole order
-  pub from_13 : read_answer bytes ≡ answer (refuse 13 (ltb (length bytes) record_bytes) ∷ from1 bytes) (fields_of bytes)
-  unfolding read_answer fields_of not_zero
-  from_13 = read_parts bytes (fields_of bytes)
+-- the whole order
+pub from_13 : (bytes : List ℕ) → read_answer bytes ≡ answer (refuse 13 (ltb (length bytes) record_bytes) ∷ from1 bytes) (fields_of bytes)
+unfolding read_answer fields_of not_zero
+from_13 bytes = read_parts bytes (fields_of bytes)
 
-  -- what is refused as the rules refuse, with no fields, is right
-  pub refused_right : {a : Answer Fields} {f : Fields} {x : Refusal} → read_answer bytes ≡ refused x → (a ≡ refused x) × (f ≡ no_fields)
-      → (a ≡ read_answer bytes) × (f ≡ left (read_answer bytes) no_fields (fields_of bytes))
-  refused_right e h = rw e h
+-- what the rules still answer after each test that was passed
+pub after13 : (bytes : List ℕ) → 144 ≤ length bytes → read_answer bytes ≡ answer (from1 bytes) (fields_of bytes)
+after13 bytes long = from_13 bytes ∙ rw (le-ltb _ 144 long)
 
-  -- and so are the record's fields where nothing is refused
-  pub read_right : {f : Fields} → read_answer bytes ≡ done (fields_of bytes) → f ≡ fields_of bytes
-      → (done f ≡ read_answer bytes) × (f ≡ left (read_answer bytes) no_fields (fields_of bytes))
-  read_right e h = rw e (ap done h, h)
+pub after1 : (bytes : List ℕ) → 144 ≤ length bytes → is_wrong_size (size_at bytes) ≡ false
+    → read_answer bytes ≡ answer (from12 bytes) (fields_of bytes)
+after1 bytes long right = after13 bytes long ∙ rw right
+
+pub after12 : (bytes : List ℕ) → 144 ≤ length bytes → is_wrong_size (size_at bytes) ≡ false → zeros_at bytes (2 ^ size_at bytes) ≡ true
+    → read_answer bytes ≡ answer (from_code bytes) (fields_of bytes)
+after12 bytes long right zeros = after1 bytes long right ∙ rw zeros

@@ -5,4 +5,4 @@ use Rattle.record.specs.Unique.{answer_injective}
 use Rattle.record.proofs.read.Reads as read
 
 pub read_unique : OneResult read.Learnt
-read_unique κs a r s v w p q = answer_injective r s (one_answer p.0 q.0) (one_answer p.1 q.1)
+read_unique κs a r s v w p q = answer_injective r s (one_answer p q)
