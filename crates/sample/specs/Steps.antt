@@ -1,16 +1,14 @@
 -- How the level of a sample reads as an answer of the rules, and what the private steps to it promise.
-use Rattle.std.specs.Prelude.{ℕ, ◌*◌, ◌≡◌, Bool, false, [], ◌∷◌, T, leb, ℤ, Float}
+use Rattle.std.specs.Prelude.{ℕ, ◌*◌, ◌≡◌, Bool, false, [], ◌∷◌, T, leb, ℤ, Float, Option, Some, None}
 use Rattle.std.specs.Float.{nan, inf, fin, binary32}
 use Rattle.std.specs.Float.Ieee.{up, down, fits}
 use Rattle.rules.specs.Sample.{nearest_whole, level_of}
 use Rattle.rules.specs.Refusals.{Answer, refused, done}
-use Rattle.sample.specs.declared.Quantised.{Quantised}
-use Rattle.sample.specs.declared.Quantised.TheVariants.{Level, NotFinite}
 
 -- the level, or refusal 11, which names sample 0
-abbrev pub quantised_of : Quantised → Answer ℤ
-quantised_of (Level z) = done z
-quantised_of NotFinite = refused (record { number = 11; values = 0 ∷ [] })
+abbrev pub quantised_of : Option ℤ → Answer ℤ
+quantised_of (Some z) = done z
+quantised_of None = refused (record { number = 11; values = 0 ∷ [] })
 
 -- x is a number of magnitude at most k
 abbrev pub within : ℕ → Float → Bool

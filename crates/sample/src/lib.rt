@@ -8,12 +8,7 @@ ghost use Rattle.rules.specs.Sample.{nearest_whole};
 ghost use Rattle.rules.specs.Answers.{level_answer};
 ghost use Rattle.sample.specs.Steps.{within, whole_of, Near, quantised_of};
 
-// What becomes of a sample: its level, or refusal 11 for NaN and infinities.
-#[derive(Clone, Copy)]
-pub enum Quantised {
-    Level(i32),
-    NotFinite,
-}
+use std::cmp::Ordering;
 
 // How many levels one unit of light has.
 const SCALE: f32 = 256.0;
@@ -21,32 +16,12 @@ const SCALE: f32 = 256.0;
 // Every sample past this magnitude has a level past the limit: 8 times SCALE is 2048.
 const FAR: f32 = 8.0;
 
-// Whether a sample is neither NaN nor an infinity.
-fn is_finite(s: f32) -> bool
-    ensures { result ≡ finite s }
-{
-    if s != s {
-        return false;
-    }
-    let infinite = f32::from_bits(0x7f80_0000);
-    if s == infinite {
-        return false;
-    }
-    s != -infinite
-}
-
 // A large magnitude clipped first, at FAR.
 fn near(s: f32) -> f32
     requires { T (finite s) }
     ensures { Near 8 s result }
 {
-    if s > FAR {
-        return FAR;
-    }
-    if s < -FAR {
-        return -FAR;
-    }
-    s
+    s.clamp(-FAR, FAR)
 }
 
 // The whole number nearest to a / b, an exact half going to the even neighbour.
@@ -56,13 +31,11 @@ fn nearest_whole(a: u32, b: u32) -> u32
 {
     let whole = a / b;
     let rest = a % b;
-    if rest < b - rest {
-        return whole;
+    match rest.cmp(&(b - rest)) {
+        Ordering::Less => whole,
+        Ordering::Equal => whole + whole % 2,
+        Ordering::Greater => whole + 1,
     }
-    if rest > b - rest {
-        return whole + 1;
-    }
-    whole + whole % 2
 }
 
 // The whole number nearest to the magnitude of x, from the bits of x. An exponent below 126 is a magnitude below 1/2; else
@@ -71,7 +44,7 @@ fn nearest(x: f32) -> u32
     requires { T (within 2048 x) }
     ensures { result ≡ whole_of x }
 {
-    let bits = f32::to_bits(x);
+    let bits = x.to_bits();
     let exponent = bits >> 23 & 0xff;
     if exponent < 126 {
         return 0;
@@ -80,17 +53,14 @@ fn nearest(x: f32) -> u32
     nearest_whole(digits, 1u32 << (150 - exponent))
 }
 
-// The level of a sample; refusal 11.
-pub fn level(s: f32) -> Quantised
+// The level of a sample; none, which is refusal 11, for NaN and the infinities.
+pub fn level(s: f32) -> Option<i32>
     ensures { quantised_of result ≡ level_answer s }
 {
-    if is_finite(s) {
-        let x = near(s);
-        let size = level::clipped(nearest(x * SCALE));
-        if x < 0.0 {
-            return Quantised::Level(-size);
-        }
-        return Quantised::Level(size);
+    if !s.is_finite() {
+        return None;
     }
-    Quantised::NotFinite
+    let x = near(s);
+    let size = level::clipped(nearest(x * SCALE));
+    Some(if x < 0.0 { -size } else { size })
 }

@@ -1,7 +1,7 @@
--- `sample::near` meets its contract: past 8 or -8 both samples are clipped, and else the magnitude is at most 8.
+-- `sample::near` meets its contract: past -8 or 8 both samples are clipped, and else the magnitude is at most 8.
 use Prim.Native.Nat.{ℕ, ◌*◌, ◌≤◌, ◌<◌}
 use mathlib.Core.Path.{◌≡◌, refl, sym, subst, ◌∙◌}
-use mathlib.Core.Bool.{Bool, true, false, true≢false}
+use mathlib.Core.Bool.{Bool, true, false, true≢false, cond}
 use native.Mathlib.Nat.{mul-one}
 use native.Mathlib.Omega.{arith}
 use borrow.Author.Tests.{ltb-true, ltb-false}
@@ -9,6 +9,7 @@ use lib.IntN.{ℤ, pos}
 use lib.Dec.{T, le→leb}
 use lib.Ieee.{Float, nan, inf, fin, binary32, up, down, lt, neg, fits, of_bits}
 use lib.Ieee.Scale.{finite}
+use Rattle.std.specs.Float.{float_clamp}
 use Rattle.sample.specs.Steps.{Near}
 use Rattle.sample.proofs.Clip.{far_level}
 use Rattle.sample.proofs.near.Goals as goal
@@ -46,17 +47,14 @@ between (fin false m e) f v h k =
 between (fin true m e) f v h k =
     record { same = refl; held = v; inside = le→leb (m * up e) (8 * down e) (omega (arith, mul-one (m * up e), ltb-false (8 * down e) (m * up e * 1) k)) }
 
-pub returns-then-s : goal.returns-then-s
-unfolding of_bits
-returns-then-s c = above c.args.s c.requires c.if-s.true
-
-pub returns-then-s-2 : goal.returns-then-s-2
-unfolding of_bits neg
-returns-then-s-2 c = below c.args.s c.requires c.if-s-2.true
+clamped : (s : Float) → T (finite s) → T (fits binary32 s) → Near 8 s (float_clamp s (far true) (far false))
+clamped s f v = go (lt s (far true)) (lt (far false) s) refl refl
+  where
+    go : (low high : Bool) → lt s (far true) ≡ low → lt (far false) s ≡ high → Near 8 s (cond low (far true) (cond high (far false) s))
+    go true high e h = below s f e
+    go false true e h = above s f h
+    go false false e h = between s f v h e
 
 pub returns : goal.returns
 unfolding of_bits neg
-returns c =
-    between c.args.s c.requires (subst T (sym c.well_formed.0.1) tt)
-    c.if-s.false
-    c.if-s-2.false
+returns c = rw c.clamp.ensures.value (clamped c.args.s c.requires (subst T (sym c.well_formed.0.1) tt))

@@ -1,10 +1,12 @@
 -- `sample::nearest_whole` meets its contract: the rest against what is missing to b is twice the rest against b.
-use Prim.Native.Nat.{ℕ, ◌+◌, ◌*◌, ◌/◌, ◌%◌, ◌<◌, compare, Ordering}
+use Prim.Native.Nat.{ℕ, ◌+◌, ◌-◌, ◌*◌, ◌/◌, ◌%◌, ◌<◌, compare, Ordering}
 use mathlib.Core.Path.{◌≡◌, refl}
-use native.Mathlib.Nat.{mod-lt, div-le_self}
+use native.Mathlib.Nat.{mod-lt}
 use native.Mathlib.Numerals.{add-one}
 use native.Mathlib.Omega.{arith}
 use lib.Ieee.{nearest}
+use Rattle.std.specs.Cmp.{ranked}
+use Rattle.std.proofs.Common.{Less, Equal, Greater}
 use Rattle.rules.specs.Sample.{nearest_whole}
 use Rattle.laws.specs.Light.Nearest.{Compared, compared}
 use Rattle.sample.proofs.nearest_whole.Goals as goal
@@ -24,37 +26,26 @@ half q x b Ordering.lt c h = absurd (omega arith)
 half q x b Ordering.eq c h = refl
 half q x b Ordering.gt c h = absurd (omega arith)
 
-pub overflow_sub-b : goal.overflow_sub-b
-overflow_sub-b c = omega (arith, mod-lt c.args.a c.requires.1)
-
-pub returns-then-rest-b : goal.returns-then-rest-b
+pub returns-in-Less : goal.returns-in-Less
 unfolding nearest_whole
-returns-then-rest-b c =
+returns-in-Less c =
     let a = c.args.a in
     let b = c.args.b in
+    let h : a % b < b - a % b = ranked (a % b) (b - a % b) Less c.in-Less.ensures in
     less (a / b) (a % b * 2) b (compare (a % b * 2) b) (compared (a % b * 2) b) (omega (arith, mod-lt a c.requires.1))
 
-pub overflow_sub-b-2 : goal.overflow_sub-b-2
-overflow_sub-b-2 c = omega (arith, mod-lt c.args.a c.requires.1)
-
-pub overflow_add-result : goal.overflow_add-result
-overflow_add-result c = record { fits = omega (arith, div-le_self c.args.a c.args.b) }
-
-pub returns-then-rest-b-2 : goal.returns-then-rest-b-2
+pub returns-in-Equal : goal.returns-in-Equal
 unfolding nearest_whole
-returns-then-rest-b-2 c =
+returns-in-Equal c =
     let a = c.args.a in
     let b = c.args.b in
-    more (a / b) (a % b * 2) b (compare (a % b * 2) b) (compared (a % b * 2) b)
-    (omega (arith, mod-lt a c.requires.1))
+    let h : a % b ≡ b - a % b = ranked (a % b) (b - a % b) Equal c.in-Equal.ensures in
+    half (a / b) (a % b * 2) b (compare (a % b * 2) b) (compared (a % b * 2) b) (omega (arith, mod-lt a c.requires.1))
 
-pub overflow_add-result-2 : goal.overflow_add-result-2
-overflow_add-result-2 c = record { fits = omega (arith, div-le_self c.args.a c.args.b) }
-
-pub returns : goal.returns
+pub returns-in-Greater : goal.returns-in-Greater
 unfolding nearest_whole
-returns c =
+returns-in-Greater c =
     let a = c.args.a in
     let b = c.args.b in
-    half (a / b) (a % b * 2) b (compare (a % b * 2) b) (compared (a % b * 2) b)
-    (omega (arith, mod-lt a c.requires.1))
+    let h : b - a % b < a % b = ranked (a % b) (b - a % b) Greater c.in-Greater.ensures in
+    more (a / b) (a % b * 2) b (compare (a % b * 2) b) (compared (a % b * 2) b) (omega (arith, mod-lt a c.requires.1))
