@@ -18,7 +18,8 @@ use Rattle.laws.specs.Seats.Seats.{seat_index, seat_below}
 use Rattle.laws.specs.Seats.SeatWords.{unseat-zero}
 use Rattle.laws.specs.Seats.Decided.{change_of}
 use Rattle.laws.specs.Seats.Copied.{change_more}
-use Rattle.word.specs.Words.{Held, word_of, word_at}
+use Rattle.word.specs.declared.Word.{Word}
+use Rattle.word.specs.Words.{word_of, word_at}
 use Rattle.groups.specs.declared.Tree.{Tree}
 use Rattle.groups.specs.declared.Step.TheVariants.{Column}
 use Rattle.groups.specs.Grouping.{Grouped, Doubled, step_of}
@@ -28,18 +29,18 @@ use Rattle.groups.proofs.Tabling.{size_small, seat-within}
 use Rattle.groups.proofs.WordsDoubled.{Begins, begins_doubled}
 
 -- the changes of the patterns below 2 ^ t
-pub record Changed (g : Tree) (l : List Held) (t : ℕ) : Type 0 where
+pub record Changed (g : Tree) (l : List Word) (t : ℕ) : Type 0 where
   pub long : length l ≡ 256
   pub done : Begins l (change_of g.n g.folding 0) (2 ^ t)
 
 -- pattern 0 changes nothing
-pub changed_first : (g : Tree) (l : List Held) → length l ≡ 256 → word_at l 0 ≡ 0 → Changed g l 0
+pub changed_first : (g : Tree) (l : List Word) → length l ≡ 256 → word_at l 0 ≡ 0 → Changed g l 0
 changed_first g l long first = record { long = long; done = λ u h. go u (omega arith) }
   where
     go : (u : ℕ) → u ≡ 0 → word_at l u ≡ change_of g.n g.folding 0 u
     go u e = rw (e, zero-mul (2 ^ (0 * 2 ^ ones g.folding)), unseat-zero g.n g.folding, codeword-zero g.n) first
 
-module _ {g : Tree} (given : Grouped g) {l : List Held} {t : ℕ} (changed : Changed g l t) (h : t < g.size) where
+module _ {g : Tree} (given : Grouped g) {l : List Word} {t : ℕ} (changed : Changed g l t) (h : t < g.size) where
   -- how many patterns there are so far, as the machine shifts it
   many_is : 1 * 2 ^ t % 2 ^ 64 ≡ 2 ^ t
   many_is = power_shifted 64 t (omega (arith, h, size_small given))
@@ -49,7 +50,7 @@ module _ {g : Tree} (given : Grouped g) {l : List Held} {t : ℕ} (changed : Cha
   room_for_more = rw (many_is, changed.long) (omega (arith, two-pow-succ t, pow_mono {i = suc t} {j = 8} (omega (arith, h, size_small given))))
 
   -- one slot more doubles the patterns
-  pub changed_next : {after : List Held} (column : Held) → length after ≡ length l → word_of column ≡ codeword g.n (2 ^ seat_index g.n g.folding t)
+  pub changed_next : {after : List Word} (column : Word) → length after ≡ length l → word_of column ≡ codeword g.n (2 ^ seat_index g.n g.folding t)
       → Doubled l after (1 * 2 ^ t % 2 ^ 64) (step_of (Column column)) → Changed g after (t + 1)
   changed_next {after = after} column same is made = record { long = same ∙ changed.long; done = rw twice done }
     where

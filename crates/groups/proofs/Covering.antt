@@ -15,7 +15,8 @@ use Rattle.laws.specs.Seats.Copied.{covered_of}
 use Rattle.laws.proofs.Seats.Copied.{covered_first, covered_more}
 use Rattle.laws.specs.Seats.Seats.{seat_index}
 use Rattle.laws.specs.Seats.SeatedDown.{groups_blocks}
-use Rattle.word.specs.Words.{Held, word_at}
+use Rattle.word.specs.declared.Word.{Word}
+use Rattle.word.specs.Words.{word_at}
 use Rattle.groups.specs.declared.Tree.{Tree}
 use Rattle.groups.specs.declared.Step.TheVariants.{Above}
 use Rattle.groups.specs.Grouping.{Grouped, Doubled, step_of}
@@ -25,13 +26,13 @@ use Rattle.groups.proofs.Tabling.{few_groups, first_seat}
 use Rattle.groups.proofs.WordsDoubled.{Begins, begins_doubled}
 
 -- the loop's invariant: the groups below m are done, and m is a power of two
-pub record Covering (g : Tree) (r : List Held) (m : ℕ) : Type 0 where
+pub record Covering (g : Tree) (r : List Word) (m : ℕ) : Type 0 where
   pub long : length r ≡ 2 ^ largest
   pub power : (b : ℕ) × (m ≡ 2 ^ b)
   pub done : Begins r (covered_of g.n g.folding) m
 
 -- m is not 0
-pub some_done : {g : Tree} {r : List Held} {m : ℕ} → Covering g r m → 0 < m
+pub some_done : {g : Tree} {r : List Word} {m : ℕ} → Covering g r m → 0 < m
 some_done inv = rw inv.power.1 (pow_pos inv.power.0)
 
 -- a power of two below another: twice it is at most the other
@@ -48,13 +49,13 @@ module _ {g : Tree} (given : Grouped g) where
   count-is = given.all ∙ groups_blocks g.n g.folding given.fits
 
   -- group 0 covers itself alone
-  pub covering_first : (r : List Held) → length r ≡ 2 ^ largest → word_at r 0 ≡ 1 → Covering g r 1
+  pub covering_first : (r : List Word) → length r ≡ 2 ^ largest → word_at r 0 ≡ 1 → Covering g r 1
   covering_first r long first = record { long = long; power = (0, refl); done = λ k h. go k (omega arith) }
     where
       go : (k : ℕ) → k ≡ 0 → word_at r k ≡ covered_of g.n g.folding k
       go k e = rw e (first ∙ sym (covered_first g.n g.folding given.fits))
 
-  module _ {r : List Held} {m : ℕ} (inv : Covering g r m) (inside : m < g.groups) where
+  module _ {r : List Word} {m : ℕ} (inv : Covering g r m) (inside : m < g.groups) where
     -- there are as many groups more
     groups_more : m + m ≤ g.groups
     groups_more = rw (inv.power.1, count-is) (twice_within inv.power.0 _ (rw (inv.power.1, count-is) at inside))
@@ -88,7 +89,7 @@ module _ {g : Tree} (given : Grouped g) where
         ∙ add_comm (rest * 2 ^ place) rest ∙ sym (moved k h).1
 
     -- one bit more doubles the groups
-    pub covering_next : {l : List ℕ} {after : List Held} → Seated l g.n g.folding → length after ≡ length r
+    pub covering_next : {l : List ℕ} {after : List Word} → Seated l g.n g.folding → length after ≡ length r
         → Doubled r after m (step_of (Above (get_or l (m * g.size) 0))) → Covering g after (m * 2)
     covering_next {l = l} {after = after} seated same made =
         record {

@@ -22,7 +22,8 @@ use Rattle.laws.proofs.Seats.SeatedBlocks.{unseat_block}
 use Rattle.laws.specs.Seats.Decided.{shut_of}
 use Rattle.laws.proofs.Seats.Decided.{shut_block}
 use Rattle.laws.proofs.Seats.Copied.{shut_is}
-use Rattle.word.specs.Words.{Held, word_at}
+use Rattle.word.specs.declared.Word.{Word}
+use Rattle.word.specs.Words.{word_at}
 use Rattle.groups.specs.declared.Tree.{Tree}
 use Rattle.groups.specs.Grouping.{Grouped, Shut}
 use Rattle.groups.specs.Seating.{Seated}
@@ -58,7 +59,7 @@ module _ {g : Tree} (given : Grouped g) where
   few_groups = omega (arith, mul-le-mul_left g.groups some_size, mul-one g.groups, all_indices, pow_mono {j = largest} given.small)
 
   -- a group's frozen indices are those of the mask, in seat order too
-  pub frozen_block : (shut : List Held) (mask : ℕ) → Shut shut g mask → (k : ℕ) → k < g.groups
+  pub frozen_block : (shut : List Word) (mask : ℕ) → Shut shut g mask → (k : ℕ) → k < g.groups
       → block_of g.size k (seat g.n g.folding (word_at shut k)) ≡ block_of g.size k (seat g.n g.folding mask)
   frozen_block shut mask frozen k h =
       ap (λ (x : ℕ). block_of g.size k (seat g.n g.folding x)) (rw (← given.sized) at (frozen k h))

@@ -6,7 +6,8 @@ use mathlib.Core.Path.{◌≡◌}
 use mathlib.Core.List.{List}
 use lib.ListN.{take}
 use Rattle.laws.specs.Answers.OneAnswer.{Agreed, OneResult, one_answer}
-use Rattle.word.specs.Words.{Held, word_at}
+use Rattle.word.specs.declared.Word.{Word}
+use Rattle.word.specs.Words.{word_at}
 use Rattle.groups.specs.Unique.{tree_injective}
 use Rattle.groups.proofs.folded.Reads as folded
 use Rattle.groups.proofs.seat.seats.Reads as seats
@@ -15,7 +16,7 @@ use Rattle.groups.proofs.covered.Reads as covered
 use Rattle.groups.proofs.changes.Reads as changes
 
 -- the first m words of both are the same
-abbrev pub SameWords : ℕ → List Held → List Held → Type 0
+abbrev pub SameWords : ℕ → List Word → List Word → Type 0
 SameWords m r s = (k : ℕ) → k < m → word_at r k ≡ word_at s k
 
 pub folded_unique : OneResult folded.Learnt

@@ -6,7 +6,8 @@ use Rattle.rules.specs.Folding as rules
 use Rattle.rules.specs.Refusals.{largest}
 use Rattle.laws.specs.Seats.Decided.{change_of, shut_of}
 use Rattle.laws.specs.Seats.Copied.{covered_of}
-use Rattle.word.specs.Words.{Held, word_of, word_at}
+use Rattle.word.specs.declared.Word.{Word}
+use Rattle.word.specs.Words.{word_of, word_at}
 use Rattle.groups.specs.declared.Tree.{Tree}
 use Rattle.groups.specs.declared.Step.{Step}
 use Rattle.groups.specs.declared.Step.TheVariants.{Above, Column}
@@ -21,15 +22,15 @@ pub record Grouped (g : Tree) : Type 0 where
   pub all : g.groups ≡ rules.groups g.n g.folding
 
 -- for each group, the codeword of its smallest index alone
-abbrev pub Covered : List Held → Tree → Type 0
+abbrev pub Covered : List Word → Tree → Type 0
 Covered l g = (k : ℕ) → k < g.groups → word_at l k ≡ covered_of g.n g.folding k
 
 -- for each group, its indices that are frozen in a mask
-abbrev pub Shut : List Held → Tree → ℕ → Type 0
+abbrev pub Shut : List Word → Tree → ℕ → Type 0
 Shut l g mask = (k : ℕ) → k < g.groups → word_at l k ≡ shut_of g.n g.folding mask k
 
 -- the first m words, and behind them what a function makes of each; of what stands behind those nothing is said
-pub record Doubled (before after : List Held) (m : ℕ) (f : ℕ → ℕ) : Type 0 where
+pub record Doubled (before after : List Word) (m : ℕ) (f : ℕ → ℕ) : Type 0 where
   pub kept : (u : ℕ) → u < m → word_at after u ≡ word_at before u
   pub added : (u : ℕ) → u < m → word_at after (m + u) ≡ f (word_at before u)
 
@@ -39,5 +40,5 @@ step_of (Above i) w = bit_xor w (w * 2 ^ i % 2 ^ (2 ^ largest))
 step_of (Column column) w = bit_xor w (word_of column)
 
 -- for each pattern, the word whose codeword has it in group 0 and zeros elsewhere
-abbrev pub Changes : List Held → Tree → Type 0
+abbrev pub Changes : List Word → Tree → Type 0
 Changes l g = (u : ℕ) → u < 2 ^ g.size → word_at l u ≡ change_of g.n g.folding 0 u

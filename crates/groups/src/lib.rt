@@ -45,10 +45,10 @@ fn first_group(index: &[usize; word::SLOTS], tree: Tree) -> Word
     requires { Grouped tree × Seated index.now tree.n tree.folding }
     ensures { word_of result ≡ unseat tree.n tree.folding (2 ^ tree.size - 1) }
 {
-    let mut r = word::none();
+    let mut r = Word::none();
     let mut t = 0;
     while t < tree.size {
-        r = word::xor(r, word::place::single(index[t]));
+        r = r ^ Word::single(index[t]);
         t += 1;
     }
     r
@@ -60,11 +60,11 @@ pub fn shut(index: &[usize; word::SLOTS], tree: Tree, frozen: Word) -> [Word; wo
     ensures { Shut result tree (word_of frozen) }
 {
     let own = first_group(index, tree);
-    let mut r = [word::none(); word::SLOTS];
+    let mut r = [Word::none(); word::SLOTS];
     let mut k = 0;
     while k < tree.groups {
         let first = k * tree.size;
-        r[k] = word::common(frozen, word::place::above(own, index[first]));
+        r[k] = frozen & own.above(index[first]);
         k += 1;
     }
     r
@@ -82,8 +82,8 @@ fn stepped(w: Word, step: Step) -> Word
     ensures { word_of result ≡ step_of step (word_of w) }
 {
     match step {
-        Step::Above(i) => word::xor(w, word::place::above(w, i)),
-        Step::Column(column) => word::xor(w, column),
+        Step::Above(i) => w ^ w.above(i),
+        Step::Column(column) => w ^ column,
     }
 }
 
@@ -105,8 +105,8 @@ pub fn covered(index: &[usize; word::SLOTS], tree: Tree) -> [Word; word::SLOTS]
     requires { Grouped tree × Seated index.now tree.n tree.folding }
     ensures { Covered result tree }
 {
-    let mut r = [word::none(); word::SLOTS];
-    r[0] = word::place::single(0);
+    let mut r = [Word::none(); word::SLOTS];
+    r[0] = Word::single(0);
     let mut m = 1;
     while m < tree.groups {
         let first = m * tree.size;
@@ -122,10 +122,10 @@ pub fn changes(index: &[usize; word::SLOTS], tree: Tree) -> [Word; 256]
     requires { Grouped tree × Seated index.now tree.n tree.folding }
     ensures { Changes result tree }
 {
-    let mut r = [word::none(); 256];
+    let mut r = [Word::none(); 256];
     let mut t = 0;
     while t < tree.size {
-        let column = matrix::map(word::place::single(index[t]));
+        let column = matrix::map(Word::single(index[t]));
         double(&mut r, 1 << t, Step::Column(column));
         t += 1;
     }

@@ -17,7 +17,8 @@ use Rattle.laws.specs.Numbers.Sums.{sum-le, sum-const}
 use Rattle.laws.specs.Rows.SortedRows.{row_cong}
 use Rattle.laws.specs.Distance.Excess.{excess, nearest, excess_greatest, excess_one_bit}
 use Rattle.laws.proofs.Distance.Excess.{nearest_greatest}
-use Rattle.word.specs.Words.{Held, word_of}
+use Rattle.word.specs.declared.Word.{Word}
+use Rattle.word.specs.Words.{word_of}
 use Rattle.word.specs.Tables.{stored_next}
 use Rattle.rows.specs.Adding.{adds, RowsRight}
 use Rattle.walk.specs.Nodes.{most}
@@ -109,7 +110,7 @@ later_seats {levels} {index} k size l h =
     }
 
 -- no group yet
-pub all_none : {levels : List ℤ} {index : List ℕ} (size : ℕ) {zero one : List ℕ} {near : List Held} → SmallSeats zero → SmallSeats one
+pub all_none : {levels : List ℤ} {index : List ℕ} (size : ℕ) {zero one : List ℕ} {near : List Word} → SmallSeats zero → SmallSeats one
     → Gives levels index 0 size zero one near
 all_none size small_zero small_one =
     record {
@@ -120,8 +121,8 @@ all_none size small_zero small_one =
     }
 
 -- one group more
-pub all_next : {levels : List ℤ} {index : List ℕ} {k size : ℕ} {zero one zero' one' : List ℕ} {near : List Held} {r : ℕ}
-    → Gives levels index k size zero one near → GroupGives levels index (k * size) zero one size zero' one' r → (x : Held) → word_of x ≡ r
+pub all_next : {levels : List ℤ} {index : List ℕ} {k size : ℕ} {zero one zero' one' : List ℕ} {near : List Word} {r : ℕ}
+    → Gives levels index k size zero one near → GroupGives levels index (k * size) zero one size zero' one' r → (x : Word) → word_of x ≡ r
     → length near ≡ 2 ^ largest → k < 2 ^ largest → Gives levels index (k + 1) size zero' one' (set near k x)
 all_next {levels} {index} {k} {size} {zero} {one} {zero'} {one'} {near} {r} all group x is long few =
     record {
@@ -140,7 +141,7 @@ all_next {levels} {index} {k} {size} {zero} {one} {zero'} {one'} {near} {r} all 
         rw e at (group.own (seat - k * size) (omega (arith, add-mul k 1 size, one-mul size)))
 
 -- the sorted rows of what is in the lists are those of what the bits cost more
-pub ranked : {levels : List ℤ} {index : List ℕ} (groups size : ℕ) {zeros units : List ℕ} {near : List Held} {table : List (List ℕ)}
+pub ranked : {levels : List ℤ} {index : List ℕ} (groups size : ℕ) {zeros units : List ℕ} {near : List Word} {table : List (List ℕ)}
     → Gives levels index groups size zeros units near → RowsRight zeros units groups size table → Ranked levels index groups size table near
 unfolding RowsRight
 ranked {levels} {index} groups size {zeros} {units} gives right =

@@ -1,12 +1,13 @@
 -- A decoding's answer as an answer of the rules.
-use Rattle.rules.specs.Refusals.{Answer, refused, done}
+use Rattle.std.specs.Prelude.{Result}
+use Rattle.rules.specs.Refusals.{Answer}
 use Rattle.rules.specs.Answers as rules
-use Rattle.refusal.specs.Number.{refusal_of}
+use Rattle.refusal.specs.Results.{answer_by}
+use Rattle.refusal.specs.declared.Refusal.{Refusal}
 use Rattle.word.specs.Words.{word_of}
-use Rattle.tree.specs.declared.Decoded as d
-use Rattle.tree.specs.declared.Answer as a
+use Rattle.tree.specs.declared.Decoded.{Decoded}
 
-abbrev pub decoded_of : d.Decoded → rules.Decoded
+abbrev pub decoded_of : Decoded → rules.Decoded
 decoded_of found =
     record {
       message = word_of found.message;
@@ -16,6 +17,5 @@ decoded_of found =
       visits = found.visits;
     }
 
-abbrev pub answer_of : a.Answer → Answer rules.Decoded
-answer_of (a.TheVariants.Found found) = done (decoded_of found)
-answer_of (a.TheVariants.Refused r) = refused (refusal_of r)
+abbrev pub answer_of : Result Decoded Refusal → Answer rules.Decoded
+answer_of = answer_by decoded_of

@@ -6,7 +6,8 @@ use Rattle.rules.specs.Level.{in_range, level_at}
 use Rattle.rules.specs.Refusals.{largest}
 use Rattle.laws.specs.Distance.Excess.{excess, nearest}
 use Rattle.laws.specs.Rows.SortedRows.{row_of}
-use Rattle.word.specs.Words.{Held, word_at}
+use Rattle.word.specs.declared.Word.{Word}
+use Rattle.word.specs.Words.{word_at}
 use Rattle.rows.specs.Table.{entry_at}
 use Rattle.rows.specs.Adding.{Small}
 
@@ -44,14 +45,14 @@ pub record GroupGives (levels : List ℤ) (index : List ℕ) (first : ℕ) (zero
   pub sum : near ≡ near_sum levels index first t
 
 -- all slots of so many groups are in the lists, and what the nearer bits of each group cost
-pub record Gives (levels : List ℤ) (index : List ℕ) (groups size : ℕ) (zero one : List ℕ) (near : List Held) : Type 0 where
+pub record Gives (levels : List ℤ) (index : List ℕ) (groups size : ℕ) (zero one : List ℕ) (near : List Word) : Type 0 where
   pub own : (seat : ℕ) → seat < groups * size → SeatGives levels index zero one seat
   pub small_zero : SmallSeats zero
   pub small_one : SmallSeats one
   pub sums : (k : ℕ) → k < groups → word_at near k ≡ near_sum levels index (k * size) size
 
 -- the table has the sorted row of each group by what its bits cost more, and the list what its nearer bits cost
-pub record Ranked (levels : List ℤ) (index : List ℕ) (groups size : ℕ) (table : List (List ℕ)) (near : List Held) : Type 0 where
+pub record Ranked (levels : List ℤ) (index : List ℕ) (groups size : ℕ) (table : List (List ℕ)) (near : List Word) : Type 0 where
   pub rows : (k j : ℕ) → k < groups → j < 2 ^ size
       → entry_at table size k j ≡ get_or (row_of (λ t b. excess (seat_level levels index (k * size + t)) b) size) j 0
   pub sums : (k : ℕ) → k < groups → word_at near k ≡ near_sum levels index (k * size) size

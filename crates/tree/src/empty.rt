@@ -4,7 +4,8 @@ ghost use Rattle.std.specs.Prelude.{◌≡◌, ℕ, ◌-◌, ◌^◌, ◌≤◌}
 ghost use Rattle.std.specs.Int.Count.{ones};
 ghost use Rattle.word.specs.Words.{word_of};
 ghost use Rattle.groups.specs.Grouping.{Grouped, Shut};
-ghost use Rattle.tree.specs.Empty.{FewShut, FirstEmpty};
+ghost use Rattle.word.specs.Options.{option_of};
+ghost use Rattle.tree.specs.Empty.{FewShut, first_empty};
 
 use groups::Tree;
 use word::Word;
@@ -14,21 +15,19 @@ fn fillings(shut: Word, size: usize) -> u32
     requires { (size ≤ 8) × (ones (word_of shut) ≤ size) }
     ensures { result ≡ 2 ^ (size - ones (word_of shut)) }
 {
-    1 << (size - word::count::ones(shut) as usize)
+    1 << (size - shut.ones() as usize)
 }
 
-// The first level whose group has no filling, or the number of levels. Level 0 decides the last group, and so on down.
-pub(crate) fn first_empty(shut: &[Word; word::SLOTS], tree: Tree) -> usize
+// The first level whose group has no filling. Level 0 decides the last group, and so on down.
+pub(crate) fn first_empty(shut: &[Word; word::SLOTS], tree: Tree) -> Option<usize>
     requires { Grouped tree × FewShut shut.now tree }
-    ensures { (mask : ℕ) → Shut shut.now tree mask → FirstEmpty tree.n mask tree.folding tree.groups result }
+    ensures { (mask : ℕ) → Shut shut.now tree mask → option_of result ≡ first_empty tree.n mask tree.folding }
 {
-    let mut level = 0;
-    while level < tree.groups {
+    for level in 0..tree.groups {
         let group = tree.groups - 1 - level;
         if fillings(shut[group], tree.size) == 0 {
-            return level;
+            return Some(level);
         }
-        level += 1;
     }
-    tree.groups
+    None
 }

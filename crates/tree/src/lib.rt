@@ -10,7 +10,6 @@ ghost use Rattle.word.specs.Words.{word_of};
 ghost use Rattle.tree.specs.Reading.{answer_of};
 ghost use Rattle.tree.specs.Search.{Searchable, search_answer};
 
-use checks::Verdict;
 use refusal::Refusal;
 use word::Word;
 
@@ -24,37 +23,36 @@ pub struct Decoded {
     pub visits: u32,
 }
 
-#[derive(Clone, Copy)]
-pub enum Answer {
-    Found(Decoded),
-    Refused(Refusal),
-}
-
 // The least word by the walk, for what refusals 1 to 6 have let pass; refusals 7, 8.
-fn search(n: u32, levels: &[i32], frozen: Word, folding: u32, allowance: u32) -> Answer
+fn search(
+    n: u32,
+    levels: &[i32],
+    frozen: Word,
+    folding: u32,
+    allowance: u32,
+) -> Result<Decoded, Refusal>
     requires { Searchable n levels.now folding }
     ensures { answer_of result ≡ search_answer n levels.now (word_of frozen) folding allowance }
 {
     let tree = groups::folded(n, folding, allowance);
     let index = groups::seat::seats(n, folding);
     let shut = groups::shut(&index, tree, frozen);
-    let empty = empty::first_empty(&shut, tree);
-    if empty < tree.groups {
-        return Answer::Refused(Refusal::NoCandidate(empty));
+    if let Some(level) = empty::first_empty(&shut, tree) {
+        return Err(Refusal::NoCandidate(level));
     }
-    let mut tables = [[word::none(); word::SLOTS]; 3];
+    let mut tables = [[Word::none(); word::SLOTS]; 3];
     let rows = slot::rows(levels, &index, tree, &mut tables[walk::NEAR]);
     let change = groups::changes(&index, tree);
     tables[walk::COVERED] = groups::covered(&index, tree);
     tables[walk::SHUT] = shut;
     let end = walk::walk(&rows, &change, &tables, tree);
     if tree.allowance < end.visits {
-        return Answer::Refused(Refusal::Allowance);
+        return Err(Refusal::Allowance);
     }
     let d = end.word;
     let distance = end.distance as u32;
     let visits = end.visits as u32;
-    Answer::Found(Decoded {
+    Ok(Decoded {
         message: message::gather(n, frozen, d),
         d,
         x: matrix::map(d),
@@ -64,23 +62,25 @@ fn search(n: u32, levels: &[i32], frozen: Word, folding: u32, allowance: u32) ->
 }
 
 // The message whose codeword is nearest to the levels, ties to the smallest information word; refusals 1 to 8.
-pub fn decode(n: u32, levels: &[i32], frozen: Word, folding: u32, allowance: u32) -> Answer
+pub fn decode(
+    n: u32,
+    levels: &[i32],
+    frozen: Word,
+    folding: u32,
+    allowance: u32,
+) -> Result<Decoded, Refusal>
     ensures { answer_of result ≡ decode_answer n levels.now (word_of frozen) folding allowance }
 {
     if word::wrong_size(n) {
-        return Answer::Refused(Refusal::Size);
+        return Err(Refusal::Size);
     }
     let slots = word::slots(n);
     if levels.len() != slots {
-        return Answer::Refused(Refusal::Length);
+        return Err(Refusal::Length);
     }
-    let verdict = checks::folded(n, frozen, folding);
-    if let Verdict::Refused(refusal) = verdict {
-        return Answer::Refused(refusal);
-    }
-    let first = level::first_out_of_range(levels);
-    if first < slots {
-        return Answer::Refused(Refusal::Range(first));
+    checks::folded(n, frozen, folding)?;
+    if let Some(slot) = level::first_out_of_range(levels) {
+        return Err(Refusal::Range(slot));
     }
     search(n, levels, frozen, folding, allowance)
 }

@@ -58,7 +58,7 @@ fn gives(
 {
     let mut k = 0;
     while k < tree.groups {
-        near[k] = word::of(group_gives(levels, index, k * tree.size, tree.size, zero, one));
+        near[k] = Word::from(group_gives(levels, index, k * tree.size, tree.size, zero, one));
         k += 1;
     }
 }

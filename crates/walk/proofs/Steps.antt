@@ -19,7 +19,8 @@ use Rattle.laws.specs.Seats.Decided.{decided, change_of, Filled}
 use Rattle.laws.proofs.Seats.Decided.{filled}
 use Rattle.laws.proofs.Seats.Copied.{change_copied, covered_apart}
 use Rattle.rows.specs.Table.{capacity, entry_at}
-use Rattle.word.specs.Words.{Held, word_at}
+use Rattle.word.specs.declared.Word.{Word}
+use Rattle.word.specs.Words.{word_at}
 use Rattle.walk.specs.Nodes.{Inside}
 use Rattle.groups.specs.Grouping.{Grouped}
 use Rattle.walk.specs.Nodes.{Given, row_candidates, most, covered_in, shut_in, near_in}
@@ -32,7 +33,7 @@ use Rattle.groups.proofs.Tabling.{shape, size_small, all_indices, few_groups as 
 in_table : {size : ℕ} (k : ℕ) → GroupSize size → suc k * size ≤ 2 ^ largest → k * 2 ^ size < capacity
 in_table k = by_size (λ (size : ℕ). suc k * size ≤ 2 ^ largest → k * 2 ^ size < capacity) (λ h. omega arith) (λ h. omega arith) (λ h. omega arith) (λ h. omega arith)
 
-module _ {rows : List (List ℕ)} {change : List Held} {tables : List (List Held)} {g : Tree} {k partial w : ℕ} {s : Walked}
+module _ {rows : List (List ℕ)} {change : List Word} {tables : List (List Word)} {g : Tree} {k partial w : ℕ} {s : Walked}
     (given : Given rows change tables g (suc k) partial w s) where
   grouped : Grouped g
   grouped = given.tabled.grouped

@@ -16,7 +16,8 @@ use Rattle.laws.specs.Seats.SeatedRow.{is_open, entry_candidate}
 use Rattle.laws.specs.Seats.Decided.{decided, decided_all}
 use Rattle.laws.specs.Numbers.Bits.{power_shifted}
 use Rattle.rows.specs.Table.{entry_at}
-use Rattle.word.specs.Words.{Held, word_at}
+use Rattle.word.specs.declared.Word.{Word}
+use Rattle.word.specs.Words.{word_at}
 use Rattle.walk.specs.States.{kept_of, running_of, state_of}
 use Rattle.walk.specs.Nodes.{Given, row_candidates, covered_in, shut_in}
 use Rattle.groups.specs.declared.Tree.{Tree}
@@ -43,19 +44,19 @@ abbrev pub decided_at : Tree → ℕ → ℕ → ℕ
 decided_at g left w = decided g.n g.folding left w
 
 -- the rules' walk of the levels that are left
-abbrev pub under : List (List ℕ) → List (List Held) → Tree → ℕ → ℕ → ℕ → Option (State keep_best) → Option (State keep_best)
+abbrev pub under : List (List ℕ) → List (List Word) → Tree → ℕ → ℕ → ℕ → Option (State keep_best) → Option (State keep_best)
 under rows tables g = walk_in keep_best g.allowance (row_candidates rows tables g)
 
 -- what the rules do with the whole node
-abbrev pub wholly : List (List ℕ) → List (List Held) → Tree → ℕ → ℕ → ℕ → Option (State keep_best) → Option (State keep_best)
+abbrev pub wholly : List (List ℕ) → List (List Word) → Tree → ℕ → ℕ → ℕ → Option (State keep_best) → Option (State keep_best)
 wholly rows tables g left partial w = under rows tables g left partial (decided_at g left w)
 
 -- what they do with candidates of group k, at a state
-abbrev pub trial : List (List ℕ) → List (List Held) → Tree → ℕ → ℕ → ℕ → List Candidate → Option (State keep_best) → Option (State keep_best)
+abbrev pub trial : List (List ℕ) → List (List Word) → Tree → ℕ → ℕ → ℕ → List Candidate → Option (State keep_best) → Option (State keep_best)
 trial rows tables g k partial w = visit_in keep_best g.allowance (under rows tables g k) partial (decided_at g (suc k) w)
 
 -- the loop's invariant
-pub record Trying (rows : List (List ℕ)) (change : List Held) (tables : List (List Held)) (g : Tree) (left partial w k size entries base : ℕ)
+pub record Trying (rows : List (List ℕ)) (change : List Word) (tables : List (List Word)) (g : Tree) (left partial w k size entries base : ℕ)
     (first s : Walked) (j : ℕ) : Type 0 where
   pub given : Given rows change tables g (suc k) partial w first
   pub levels : left ≡ suc k
@@ -67,7 +68,7 @@ pub record Trying (rows : List (List ℕ)) (change : List Held) (tables : List (
   pub same : trial rows tables g k partial w (rest rows g.n g.folding g.size k (nearer given) (forced given) (closed given) j) (state_of g.allowance s)
       ≡ wholly rows tables g left partial w (state_of g.allowance first)
 
-module _ {rows : List (List ℕ)} {change : List Held} {tables : List (List Held)} {g : Tree} {left partial w k size entries base : ℕ} {first s : Walked} {j : ℕ}
+module _ {rows : List (List ℕ)} {change : List Word} {tables : List (List Word)} {g : Tree} {left partial w k size entries base : ℕ} {first s : Walked} {j : ℕ}
     (t : Trying rows change tables g left partial w k size entries base first s j) where
   -- the node's whole result
   abbrev whole : Option (State keep_best)
@@ -182,7 +183,7 @@ module _ {rows : List (List ℕ)} {change : List Held} {tables : List (List Held
                     }
 
 -- a node with no level left keeps the word or not
-pub at_leaf : {rows : List (List ℕ)} {change : List Held} {tables : List (List Held)} {g : Tree} {left partial w : ℕ} {s : Walked}
+pub at_leaf : {rows : List (List ℕ)} {change : List Word} {tables : List (List Word)} {g : Tree} {left partial w : ℕ} {s : Walked}
     → Given rows change tables g left partial w s → left ≡ 0 → (back : Walked)
     → (kept_of back ≡ keep partial w (kept_of s)) × (back.visits ≡ s.visits)
     → state_of g.allowance back ≡ wholly rows tables g left partial w (state_of g.allowance s)
@@ -193,7 +194,7 @@ at_leaf {rows} {tables = tables} {g = g} {left} {partial} {w} {s} given none_lef
     ∙ sym (walk_last keep_best g.allowance (row_candidates rows tables g) partial (decided_at g 0 w) (running_of s))
     ∙ ap₂ (λ (l : ℕ) (o : Option (State keep_best)). wholly rows tables g l partial w o) (sym none_left) (sym (running_state g.allowance s given.running))
 
-module _ {rows : List (List ℕ)} {change : List Held} {tables : List (List Held)} {g : Tree} {left partial w : ℕ} {s : Walked}
+module _ {rows : List (List ℕ)} {change : List Word} {tables : List (List Word)} {g : Tree} {left partial w : ℕ} {s : Walked}
     (given : Given rows change tables g left partial w s) (some_left : left ≡ 0 → ⊥) where
   levels_left : left ≡ suc (left - 1)
   levels_left = omega arith

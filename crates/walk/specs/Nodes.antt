@@ -6,7 +6,8 @@ use Rattle.rules.specs.Walk.{Candidate}
 use Rattle.laws.specs.Seats.Decided.{Blank}
 use Rattle.laws.specs.Seats.SeatWords.{seat}
 use Rattle.laws.specs.Seats.SeatedRow.{block_of, branch_of, entry_candidates}
-use Rattle.word.specs.Words.{Held, word_at}
+use Rattle.word.specs.declared.Word.{Word}
+use Rattle.word.specs.Words.{word_at}
 use Rattle.groups.specs.Grouping.{Grouped, Covered, Shut, Changes}
 use Rattle.rows.specs.Table.{capacity, entry_at, row_at}
 use Rattle.groups.specs.declared.Tree.{Tree}
@@ -23,17 +24,17 @@ pub record Inside (size k j : ℕ) : Type 0 where
   pub entry : j < 2 ^ size
 
 -- the walk's tables of words: what each group covers, its frozen indices, and the number that its nearer bits cost
-abbrev pub covered_in : List (List Held) → List Held
+abbrev pub covered_in : List (List Word) → List Word
 covered_in tables = get_or tables 0 []
 
-abbrev pub shut_in : List (List Held) → List Held
+abbrev pub shut_in : List (List Word) → List Word
 shut_in tables = get_or tables 1 []
 
-abbrev pub near_in : List (List Held) → List Held
+abbrev pub near_in : List (List Word) → List Word
 near_in tables = get_or tables 2 []
 
 -- the candidates of group k after the word d, from the table's row and the group's frozen indices
-unfoldable pub row_candidates : List (List ℕ) → List (List Held) → Tree → ℕ → ℕ → List Candidate
+unfoldable pub row_candidates : List (List ℕ) → List (List Word) → Tree → ℕ → ℕ → List Candidate
 row_candidates rows tables g k d =
     entry_candidates g.n g.folding g.size k (word_at (near_in tables) k)
     (block_of g.size k (codeword g.n (seat g.n g.folding d)))
@@ -41,7 +42,7 @@ row_candidates rows tables g k d =
     (row_at rows g.size k)
 
 -- what the tables of a walk hold
-pub record Tabled (rows : List (List ℕ)) (change : List Held) (tables : List (List Held)) (g : Tree) : Type 0 where
+pub record Tabled (rows : List (List ℕ)) (change : List Word) (tables : List (List Word)) (g : Tree) : Type 0 where
   pub grouped : Grouped g
   pub bounded : (k j : ℕ) → k < g.groups → j < 2 ^ g.size
       → branch_of (word_at (near_in tables) k) (entry_at rows g.size k j) ≤ g.size * most
@@ -58,7 +59,7 @@ pub record Begun (g : Tree) (left partial w : ℕ) : Type 0 where
   pub room : partial + left * (g.size * most) < 2 ^ 32
 
 -- all that a node is given
-pub record Given (rows : List (List ℕ)) (change : List Held) (tables : List (List Held)) (g : Tree) (left partial w : ℕ) (s : Walked) : Type 0 where
+pub record Given (rows : List (List ℕ)) (change : List Word) (tables : List (List Word)) (g : Tree) (left partial w : ℕ) (s : Walked) : Type 0 where
   pub tabled : Tabled rows change tables g
   pub begun : Begun g left partial w
   pub running : s.visits ≤ g.allowance

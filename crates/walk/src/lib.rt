@@ -47,14 +47,14 @@ fn changed(w: Word, change: &[Word; 256], covered: Word, e: u32) -> Word
     ensures { word_of result ≡ bit_xor (word_of w) (word_of covered * word_at change.now (e % 256)) }
 {
     let pattern = (e % 256) as usize;
-    word::xor(w, word::place::copies(covered, change[pattern]))
+    w ^ covered.copies(change[pattern])
 }
 
 // Whether a word has no one at a group's frozen indices.
 fn is_open(w: Word, shut: Word) -> bool
     ensures { result ≡ eqb (bit_and (word_of w) (word_of shut)) 0 }
 {
-    !word::count::reaches(word::common(w, shut), 0)
+    !(w & shut).reaches(0)
 }
 
 // With no level left the word is kept or not; else the candidates of the next group are tried in order.
@@ -77,7 +77,7 @@ fn node(
     let k = left - 1;
     let size = tree.size;
     let entries: usize = 1 << size;
-    let base = partial + word::low(tables[NEAR][k]);
+    let base = partial + u64::from(tables[NEAR][k]);
     let mut s = state;
     let mut j = 0;
     while j < entries {
@@ -113,5 +113,5 @@ pub fn walk(
     ensures { state_of tree.allowance result ≡ walk_in keep_best tree.allowance (row_candidates rows.now tables.now tree) tree.groups 0 0 (some empty) }
 {
     let levels = tree.groups;
-    node(rows, change, tables, tree, levels, 0, word::none(), start())
+    node(rows, change, tables, tree, levels, 0, Word::none(), start())
 }

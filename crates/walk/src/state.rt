@@ -23,7 +23,7 @@ pub(crate) fn start() -> Walked
     ensures { (kept_of result ≡ nothing) × (result.visits ≡ 0) }
 {
     Walked {
-        word: word::none(),
+        word: Word::none(),
         distance: NO_BEST,
         visits: 0,
     }
@@ -65,7 +65,7 @@ pub(crate) fn keep_word(s: Walked, distance: u64, w: Word) -> Walked
         return with_best(s, distance, w);
     }
     if distance == s.distance {
-        if word::less(w, s.word) {
+        if w.less(s.word) {
             return with_best(s, distance, w);
         }
     }

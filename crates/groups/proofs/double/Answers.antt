@@ -9,11 +9,8 @@ loop-u-init c = turned_none
 pub offset_bounds-words-u : goal.offset_bounds-words-u
 offset_bounds-words-u c = omega (arith, c.requires, c.well_formed.0.1)
 
-pub bounds-words-u : goal.bounds-words-u
-bounds-words-u c = omega (arith, c.requires, c.loop-u.invariant.same)
-
-pub overflow_add-words : goal.overflow_add-words
-overflow_add-words c = omega (arith, c.requires, c.well_formed.0.1)
+pub overflow_add-m : goal.overflow_add-m
+overflow_add-m c = omega (arith, c.requires, c.well_formed.0.1)
 
 pub offset_bounds-words-m : goal.offset_bounds-words-m
 offset_bounds-words-m c = omega (arith, c.requires, c.well_formed.0.1)

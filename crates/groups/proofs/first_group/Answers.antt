@@ -24,7 +24,7 @@ pub loop-t-preserved : goal.loop-t-preserved
 loop-t-preserved c =
     let given = c.requires in (
       omega arith,
-      c.xor-r.ensures ∙ ap₂ bit_xor c.loop-t.invariant.1 c.single.ensures ∙ group_next given.0 given.1 c.loop-t-test.true,
+      c.bitxor-r.ensures ∙ ap₂ bit_xor c.loop-t.invariant.1 c.single.ensures ∙ group_next given.0 given.1 c.loop-t-test.true,
     )
 
 pub returns : goal.returns

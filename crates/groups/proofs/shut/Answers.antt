@@ -45,7 +45,7 @@ loop-k-preserved c =
     let own = c.first_group-own.ensures in (
       length-set r _ _ ∙ inv.0,
       stored_next r _ _ (shut_of _ _ (word_of frozen)) (omega (arith, inv.0, few_groups c.requires.0, c.loop-k-test.true))
-          (c.common.ensures ∙ ap (bit_and (word_of frozen)) c.above.ensures ∙ shut_here given.0 given.1 (word_of frozen) _ own c.loop-k-test.true)
+          (c.bitand.ensures ∙ ap (bit_and (word_of frozen)) c.above.ensures ∙ shut_here given.0 given.1 (word_of frozen) _ own c.loop-k-test.true)
           inv.1,
     )
 

@@ -7,7 +7,7 @@ use Rattle.groups.proofs.stepped.Goals as goal
 pub returns-in-Above : goal.returns-in-Above
 returns-in-Above c =
     rw c.in-Above.is
-    (c.xor.ensures ∙ ap (bit_xor (word_of c.args.w)) c.above.ensures)
+    (c.bitxor.ensures ∙ ap (bit_xor (word_of c.args.w)) c.above.ensures)
 
 pub returns-in-Column : goal.returns-in-Column
-returns-in-Column c = rw c.in-Column.is c.xor-in-Column.ensures
+returns-in-Column c = rw c.in-Column.is c.bitxor-in-Column.ensures

@@ -2,6 +2,7 @@
 use Prim.Native.Nat.{ℕ, suc, ◌+◌, ◌-◌, ◌^◌, ◌≤◌, ◌<◌, zero-le}
 use mathlib.Core.Path.{◌≡◌, refl, sym, ap, ◌∙◌}
 use mathlib.Core.Bool.{false}
+use mathlib.Core.Option.{none, some}
 use mathlib.Core.List.{List, [], ◌∷◌}
 use native.Mathlib.Nat.{mod-lt}
 use native.Mathlib.Decide.{ℕ_discrete}
@@ -19,10 +20,11 @@ use Rattle.laws.proofs.Seats.FillingNumber.{group-fillings}
 use Rattle.laws.specs.Seats.SeatedRow.{block_of}
 use Rattle.laws.specs.Seats.SeatWords.{seat}
 use Rattle.laws.proofs.Seats.Copied.{shut-ones}
-use Rattle.word.specs.Words.{Held, word_at}
+use Rattle.word.specs.declared.Word.{Word}
+use Rattle.word.specs.Words.{word_at}
 use Rattle.groups.specs.declared.Tree.{Tree}
 use Rattle.groups.specs.Grouping.{Grouped, Shut}
-use Rattle.tree.specs.Empty.{FewShut, FirstEmpty, is_empty_level}
+use Rattle.tree.specs.Empty.{FewShut, first_empty, is_empty_level}
 
 -- a list is empty where its length is 0
 empty-length : (l : List ℕ) → is_empty l ≡ eqb (length l) 0
@@ -30,27 +32,27 @@ empty-length [] = refl
 empty-length (x ∷ xs) = sym (ne_eqb (suc (length xs)) 0 (λ e. omega arith))
 
 -- what the code counts at a level: how many fillings the frozen indices of its group leave
-pub record Read (l : List Held) (g : Tree) (level many : ℕ) : Type 0 where
+pub record Read (l : List Word) (g : Tree) (level many : ℕ) : Type 0 where
   pub inside : level < g.groups
   pub number : many ≡ 2 ^ (g.size - ones (word_at l (g.groups - 1 - level)))
 
 -- no level before this one is empty
-pub record Passed (l : List Held) (g : Tree) (level : ℕ) : Type 0 where
+pub record Passed (l : List Word) (g : Tree) (level : ℕ) : Type 0 where
   pub inside : level ≤ g.groups
   pub full : (mask : ℕ) → Shut l g mask → (t : ℕ) → t < level → is_empty_level g.n mask g.folding t ≡ false
 
 module _ {g : Tree} (given : Grouped g) where
   -- a group's frozen indices are as many as in seat order
-  seated-ones : (l : List Held) (mask : ℕ) → Shut l g mask → (k : ℕ) → k < g.groups
+  seated-ones : (l : List Word) (mask : ℕ) → Shut l g mask → (k : ℕ) → k < g.groups
       → ones (word_at l k) ≡ ones (block_of (2 ^ ones g.folding) k (seat g.n g.folding mask))
   seated-ones l mask shut k h = ap ones (shut k h) ∙ shut-ones g.n g.folding given.fits mask k (rw given.all at h)
 
   -- so they are no more than its indices
-  pub few_shut : (l : List Held) (mask : ℕ) → Shut l g mask → FewShut l g
+  pub few_shut : (l : List Word) (mask : ℕ) → Shut l g mask → FewShut l g
   few_shut l mask shut k h =
       rw (seated-ones l mask shut k h, given.sized) (ones-le (2 ^ ones g.folding) _ (mod-lt _ (pow_pos (2 ^ ones g.folding))))
 
-module _ {l : List Held} {g : Tree} (given : Grouped g) where
+module _ {l : List Word} {g : Tree} (given : Grouped g) where
   -- the level is empty exactly where the code's number is 0
   level_empty : {level many : ℕ} → Read l g level many → (mask : ℕ) → Shut l g mask → is_empty_level g.n mask g.folding level ≡ eqb many 0
   level_empty {level} {many} read mask shut =
@@ -86,18 +88,13 @@ module _ {l : List Held} {g : Tree} (given : Grouped g) where
 
   -- a level with none is the first
   pub found-empty : {level many : ℕ} → Passed l g level → Read l g level many → many ≡ 0
-      → (mask : ℕ) → Shut l g mask → FirstEmpty g.n mask g.folding g.groups level
-  found-empty {level} {many} passed read empty mask shut = record {
-    inside = passed.inside;
-    named = λ h. some_of (rules.groups g.n g.folding) (is_empty_level g.n mask g.folding) level (rw given.all at read.inside)
-        (level_empty read mask shut ∙ eq-eqb many 0 empty) (passed.full mask shut);
-    absent = λ e. absurd (omega (arith, read.inside));
-  }
+      → (mask : ℕ) → Shut l g mask → some level ≡ first_empty g.n mask g.folding
+  found-empty {level} {many} passed read empty mask shut =
+      sym (some_of (rules.groups g.n g.folding) (is_empty_level g.n mask g.folding) level (rw given.all at read.inside)
+      (level_empty read mask shut ∙ eq-eqb many 0 empty) (passed.full mask shut))
 
   -- past the last level there is none
-  pub found_none : Passed l g g.groups → (mask : ℕ) → Shut l g mask → FirstEmpty g.n mask g.folding g.groups g.groups
-  found_none passed mask shut = record {
-    inside = passed.inside;
-    named = λ h. absurd (omega arith);
-    absent = λ e. none_of (rules.groups g.n g.folding) (is_empty_level g.n mask g.folding) (λ t h. passed.full mask shut t (rw given.all h));
-  }
+  pub found_none : {level : ℕ} → Passed l g level → g.groups ≤ level → (mask : ℕ) → Shut l g mask → none ≡ first_empty g.n mask g.folding
+  found_none passed past mask shut =
+      sym (none_of (rules.groups g.n g.folding) (is_empty_level g.n mask g.folding)
+      (λ t h. passed.full mask shut t (omega (arith, rw (← given.all) at h))))

@@ -17,7 +17,8 @@ use Rattle.rules.specs.Answers as rules
 use Rattle.laws.specs.Distance.Least.{least_word_least}
 use Rattle.laws.proofs.Codewords.Matrix.{codeword_longer}
 use Rattle.laws.specs.Code.Permitted.{permitted-lt}
-use Rattle.word.specs.Words.{size_of, Held, word_of}
+use Rattle.word.specs.declared.Word.{Word}
+use Rattle.word.specs.Words.{size_of, word_of}
 use Rattle.walk.specs.States.{kept_of, running_of, state_of}
 use Rattle.tree.specs.Empty.{first_empty}
 use Rattle.tree.specs.Search.{search_answer}
@@ -84,7 +85,7 @@ module _ (n mask folding allowance : ℕ) (levels : List ℤ) (end : Walked) whe
     visits_fit h = omega (arith, h, ltb-false allowance end.visits on)
 
     -- the decoding's fields
-    pub found_right : n ≤ largest → (message x : Held) → word_of message ≡ gather (size_of n) mask (word_of end.word) → word_of x ≡ codeword largest (word_of end.word)
+    pub found_right : n ≤ largest → (message x : Word) → word_of message ≡ gather (size_of n) mask (word_of end.word) → word_of x ≡ codeword largest (word_of end.word)
         → decoded_of (record { message = message; d = end.word; x = x; distance = end.distance; visits = end.visits }) ≡ rules.decoded n levels mask folding
     unfolding rules.decoded
     found_right small message x is_message is_code =

@@ -30,7 +30,8 @@ use Rattle.laws.proofs.Seats.SeatedWalk.{seated_least_in}
 use Rattle.laws.specs.Numbers.SortedLists.{mem_get_d}
 use Rattle.laws.specs.Rows.SortedRows.{row_of, row-length, row-at, row_cong, entry_parts}
 use Rattle.laws.specs.Walk.Allowance.{walk_in, walk_cong}
-use Rattle.word.specs.Words.{Held, word_at}
+use Rattle.word.specs.declared.Word.{Word}
+use Rattle.word.specs.Words.{word_at}
 use Rattle.groups.specs.Seating.{Seated}
 use Rattle.groups.specs.Grouping.{Grouped, Covered, Shut, Changes}
 use Rattle.rows.specs.Table.{entry_at, row_at}
@@ -55,7 +56,7 @@ module _ {levels : List ℤ} {g : Tree} (grouped : Grouped g) (given : Searchabl
             λ t h. rw (zero-add t, index_at seated t (rw (all_indices grouped) at h)) (given.ranged _ (seat_below g.n g.folding given.fits t (rw (all_indices grouped) at h)));
       }
 
-  module _ (table : List (List ℕ)) (tables : List (List Held)) (ranked : Ranked levels index g.groups g.size table (near_in tables)) where
+  module _ (table : List (List ℕ)) (tables : List (List Word)) (ranked : Ranked levels index g.groups g.size table (near_in tables)) where
     -- a seat of group k is a seat
     inside : (k t : ℕ) → k < g.groups → t < g.size → k * g.size + t < g.groups * g.size
     inside k t hk ht = omega (arith, mul-le-mul_right g.size hk, suc-mul k g.size)
@@ -110,7 +111,7 @@ module _ {levels : List ℤ} {g : Tree} (grouped : Grouped g) (given : Searchabl
             (given.ranged _ (seat_below g.n g.folding given.fits _ (rw (all_indices grouped) at (inside k t hk ht)))))
 
     -- what the walk asks of the tables
-    pub tables_right : (change : List Held) (mask : ℕ) → Changes change g → Covered (covered_in tables) g → Shut (shut_in tables) g mask
+    pub tables_right : (change : List Word) (mask : ℕ) → Changes change g → Covered (covered_in tables) g → Shut (shut_in tables) g mask
         → Tabled table change tables g
     tables_right change mask changes copied frozen =
         record {

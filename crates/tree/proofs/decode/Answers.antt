@@ -5,6 +5,7 @@ use mathlib.Core.Path.{◌≡◌, sym, ap, ◌∙◌}
 use mathlib.Core.List.{List, ◌++◌}
 use lib.IntN.{ℤ}
 use borrow.Author.Tests.{ne_eqb}
+use Rattle.std.proofs.lemmas.Result.{err_from_is_err_and}
 use Rattle.rules.specs.Refusals.{answer, refuse_at}
 use Rattle.rules.specs.Orders.{folded_order, walk_order}
 use Rattle.rules.specs.Answers.{decoded, decode_answer}
@@ -14,9 +15,9 @@ use Rattle.word.specs.Words.{word_of}
 use Rattle.word.specs.Sizes.{slots_right}
 use Rattle.checks.specs.Passing.{folded_passed, folded_refused_first}
 use Rattle.tree.specs.Search.{search_answer}
-use Rattle.tree.proofs.deciding.FirstOut.{range_right, range_wrong, all_in_range}
+use Rattle.tree.proofs.deciding.FirstOut.{range_is, all_in_range}
 use Rattle.tree.proofs.decode.Goals as goal
-use Rattle.tree.proofs.decode.Goals.{Else-levels-slots, In_default}
+use Rattle.tree.proofs.decode.Goals.{Else-levels-slots, In_ok-folded}
 
 module _ (n : ℕ) (levels : List ℤ) (mask folding allowance : ℕ) where
   -- what is left to answer where the slice is right
@@ -39,8 +40,8 @@ lent : (c : Else-levels-slots) → LentRight c.args.n c.args.levels.now
 lent c = record { size = sym c.wrong_size.ensures ∙ c.if-wrong_size.false; long = c.if-levels-slots.false ∙ all_slots c }
 
 -- the code and the folding are
-right : (c : In_default) → FoldedRight c.args.n (word_of c.args.frozen) c.args.folding
-right c = (folded_right _ _ _).0 (folded_passed _ _ _ c.folded-verdict.ensures c.in_default.is)
+right : (c : In_ok-folded) → FoldedRight c.args.n (word_of c.args.frozen) c.args.folding
+right c = (folded_right _ _ _).0 (folded_passed _ _ _ c.folded.ensures c.in_ok-folded.was)
 
 pub returns-then-wrong_size : goal.returns-then-wrong_size
 unfolding decode_answer
@@ -54,32 +55,33 @@ returns-then-levels-slots c =
     (decode_parts _ _ _ _ _ _
     ∙ rw (right, ne_eqb _ _ (λ e. c.if-levels-slots.true (e ∙ sym (slots_right _ right _ c.slots-slots.ensures)))))
 
-pub returns-in-Refused : goal.returns-in-Refused
-returns-in-Refused c =
-    folded_refused_first _ _ _ c.folded-verdict.ensures _ _ c.in-Refused.is
-    ∙ sym (after-slice _ _ _ _ c.args.allowance (lent (goal.at.returns-in-Refused c).Else-levels-slots))
+pub returns-in_err-folded : goal.returns-in_err-folded
+returns-in_err-folded c =
+    let passed_on = err_from_is_err_and c.from_residual.result c.from_residual.ensures.1 in
+    rw (passed_on.1, passed_on.2)
+    (folded_refused_first _ _ _ c.folded.ensures _ _ c.in_err-folded.was
+    ∙ sym (after-slice _ _ _ _ c.args.allowance (lent (goal.at.returns-in_err-folded c).Else-levels-slots)))
 
-pub returns-then-first-slots : goal.returns-then-first-slots
+pub returns-in-Some : goal.returns-in-Some
 unfolding walk_order
-returns-then-first-slots c =
-    let at = goal.at.returns-then-first-slots c in
+returns-in-Some c =
+    let at = goal.at.returns-in-Some c in
     let slice = lent at.Else-levels-slots in
-    let first = rw (all_slots at.Else-levels-slots) at c.if-first-slots.true in
-    let wrong = range_wrong c.args.levels.now (2 ^ c.args.n) _ slice.long c.first_out_of_range-first.ensures.0 first in
-    sym (after-tests _ _ _ _ _ slice (right at.In_default) ∙ rw (ap (refuse_at 6) wrong))
+    sym
+    (after-tests _ _ _ _ _ slice (right at.In_ok-folded)
+    ∙ rw (ap (refuse_at 6) (range_is c.args.levels.now (2 ^ c.args.n) slice.long c.in-Some.ensures.found)))
 
 pub search-requires : goal.search-requires
 search-requires c =
     let at = goal.at.search-requires c in
     let slice = lent at.Else-levels-slots in
-    let folded = right at.In_default in
-    let first = rw (all_slots at.Else-levels-slots) at c.if-first-slots.false in
+    let folded = right at.In_ok-folded in
     record {
       small = folded.code.small;
       long = slice.long;
       fits = folded.sets.fits;
       few = folded.sets.few;
-      ranged = all_in_range c.args.levels.now (2 ^ c.args.n) _ slice.long c.first_out_of_range-first.ensures.0 first;
+      ranged = all_in_range c.args.levels.now (2 ^ c.args.n) slice.long c.in_default.ensures.found;
     }
 
 pub returns : goal.returns
@@ -87,6 +89,5 @@ unfolding walk_order search_answer
 returns c =
     let at = goal.at.returns c in
     let slice = lent at.Else-levels-slots in
-    let first = rw (all_slots at.Else-levels-slots) at c.if-first-slots.false in
-    let in_range = range_right c.args.levels.now (2 ^ c.args.n) _ slice.long c.first_out_of_range-first.ensures.0 first in
-    c.search.ensures ∙ sym (after-tests _ _ _ _ _ slice (right at.In_default) ∙ rw (ap (refuse_at 6) in_range))
+    let in_range = range_is c.args.levels.now (2 ^ c.args.n) slice.long c.in_default.ensures.found in
+    c.search.ensures ∙ sym (after-tests _ _ _ _ _ slice (right at.In_ok-folded) ∙ rw (ap (refuse_at 6) in_range))

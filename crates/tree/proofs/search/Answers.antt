@@ -10,7 +10,8 @@ use lib.IntN.{ℤ}
 use lib.ListN.{length-replicate}
 use borrow.Author.Tests.{lt-ltb, le-ltb}
 use Rattle.rules.specs.Refusals.{largest}
-use Rattle.word.specs.Words.{Held, word_of}
+use Rattle.word.specs.declared.Word.{Word}
+use Rattle.word.specs.Words.{word_of}
 use Rattle.groups.specs.Seating.{Seated}
 use Rattle.groups.specs.Grouping.{Grouped}
 use Rattle.tree.specs.Empty.{first_empty}
@@ -38,9 +39,7 @@ module _ {g : Tree} {n folding allowance : ℕ} (made : (g.n ≡ n) × (g.foldin
 candidates : (c : After-walk-end) → first_empty c.args.n (word_of c.args.frozen) c.args.folding ≡ none
 candidates c =
     let tree = c.folded-tree.ensures in
-    let first = c.first_empty-empty.ensures _ c.shut-shut.ensures in
-    onto (λ n folding. first_empty n (word_of c.args.frozen) folding ≡ none) tree.0 tree.1
-    (first.absent (omega (arith, first.inside, c.if-empty-tree.false)))
+    onto (λ n folding. first_empty n (word_of c.args.frozen) folding ≡ none) tree.0 tree.1 (sym (c.in_default.ensures _ c.shut-shut.ensures))
 
 ends : (c : After-walk-end)
     → Ends c.args.n (word_of c.args.frozen) c.args.folding c.args.allowance c.args.levels.now c.walk-end.result
@@ -60,25 +59,24 @@ as-given c t = onto (λ allowance visits. ltb allowance visits ≡ t) c.folded-t
 pub shut-shut-requires : goal.shut-shut-requires
 shut-shut-requires c = (c.folded-tree.ensures.3, seated c.folded-tree.ensures c.seats-index.ensures)
 
-pub first_empty-empty-requires : goal.first_empty-empty-requires
-first_empty-empty-requires c =
+pub first_empty-requires : goal.first_empty-requires
+first_empty-requires c =
     let grouped = c.folded-tree.ensures.3 in
     (grouped, few_shut grouped c.shut-shut.result (word_of c.args.frozen) c.shut-shut.ensures)
 
-pub returns-then-empty-tree : goal.returns-then-empty-tree
-returns-then-empty-tree c =
+pub returns-in-Some : goal.returns-in-Some
+returns-in-Some c =
     let tree = c.folded-tree.ensures in
-    let first = c.first_empty-empty.ensures _ c.shut-shut.ensures in
     answer_seven _ _ _ _ _ _
-    (onto (λ n folding. first_empty n (word_of c.args.frozen) folding ≡ some c.first_empty-empty.result) tree.0 tree.1
-    (first.named c.if-empty-tree.true))
+    (onto (λ n folding. first_empty n (word_of c.args.frozen) folding ≡ some c.in-Some.level) tree.0 tree.1
+    (sym (c.in-Some.ensures _ c.shut-shut.ensures)))
 
 pub rows-rows-requires : goal.rows-rows-requires
 rows-rows-requires c =
     let tree = c.folded-tree.ensures in (
       tree.3,
       levelled tree.3 (given tree c.requires) (seated tree c.seats-index.ensures),
-      length-replicate {A = Held} (2 ^ largest) c.none.result,
+      length-replicate {A = Word} (2 ^ largest) c.none.result,
     )
 
 pub changes-change-requires : goal.changes-change-requires

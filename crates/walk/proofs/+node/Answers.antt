@@ -20,10 +20,10 @@ pub bounds-tables-k : goal.bounds-tables-k
 bounds-tables-k t c = few_groups (given_next c.requires c.if-left-eq0.false)
 
 pub overflow_add-base : goal.overflow_add-base
-overflow_add-base t c = record { fits = omega (arith, near_fits (given_next c.requires c.if-left-eq0.false), c.low.ensures) }
+overflow_add-base t c = record { fits = omega (arith, near_fits (given_next c.requires c.if-left-eq0.false), c.from.ensures) }
 
 pub loop-j-init : goal.loop-j-init
-loop-j-init t c = trying_none c.requires c.if-left-eq0.false c.low.result c.low.ensures
+loop-j-init t c = trying_none c.requires c.if-left-eq0.false c.from.result c.from.ensures
 
 pub entry-e-requires : goal.entry-e-requires
 entry-e-requires t c = inside c.loop-j.invariant.given _ (below c.loop-j.invariant c.loop-j-test.true)

@@ -5,4 +5,4 @@ use Rattle.word.specs.Words.{word_of}
 use Rattle.walk.proofs.changed.Goals as goal
 
 pub returns : goal.returns
-returns c = c.xor.ensures ∙ ap (bit_xor (word_of c.args.w)) c.copies.ensures
+returns c = c.bitxor.ensures ∙ ap (bit_xor (word_of c.args.w)) c.copies.ensures

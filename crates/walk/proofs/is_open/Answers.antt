@@ -20,4 +20,4 @@ none-reached w = go (ℕ_discrete w 0)
 
 pub returns : goal.returns
 returns c =
-    ap not (c.reaches.ensures ∙ ap (leb 1) c.common.ensures) ∙ none-reached (bit_and (word_of c.args.w) (word_of c.args.shut))
+    ap not (c.reaches.ensures ∙ ap (leb 1) c.bitand.ensures) ∙ none-reached (bit_and (word_of c.args.w) (word_of c.args.shut))

@@ -1,5 +1,4 @@
 -- `tree::empty::first_empty` meets its contract. Invariant: no level before this one is empty.
-use mathlib.Core.Path.{◌≡◌}
 use native.Mathlib.Omega.{arith}
 use Rattle.groups.proofs.Tabling.{size_small, few_groups}
 use Rattle.tree.proofs.deciding.Emptiness.{passed_none, passed_next, found-empty, found_none}
@@ -7,9 +6,6 @@ use Rattle.tree.proofs.empty.first_empty.Goals as goal
 
 pub loop-level-init : goal.loop-level-init
 loop-level-init c = passed_none c.requires.0
-
-pub offset_bounds-shut-group : goal.offset_bounds-shut-group
-offset_bounds-shut-group c = record { fits = omega (arith, few_groups c.requires.0) }
 
 pub bounds-shut-group : goal.bounds-shut-group
 bounds-shut-group c = omega (arith, few_groups c.requires.0)
@@ -32,6 +28,4 @@ loop-level-preserved c =
     c.if-fillings-eq0.false
 
 pub returns : goal.returns
-returns c =
-    let last : c.loop-level.level ≡ c.args.tree.groups = omega (arith, c.loop-level.invariant.inside) in
-    found_none c.requires.0 (rw last at c.loop-level.invariant)
+returns c = found_none c.requires.0 c.loop-level.invariant c.loop-level-test.false

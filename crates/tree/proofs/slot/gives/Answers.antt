@@ -7,7 +7,7 @@ use native.Mathlib.Omega.{arith}
 use lib.IntN.{ℤ}
 use lib.ListN.{length-set}
 use Rattle.rules.specs.Refusals.{largest}
-use Rattle.word.specs.Words.{Held}
+use Rattle.word.specs.declared.Word.{Word}
 use Rattle.tree.specs.Slots.{Levelled, Gives}
 use Rattle.groups.specs.Grouping.{Grouped}
 use Rattle.groups.specs.declared.Tree.{Tree}
@@ -24,7 +24,7 @@ k-small : {tree : Tree} {k : ℕ} → Grouped tree → k < tree.groups → k < 2
 k-small grouped h = omega (arith, few_groups grouped, h)
 
 -- all groups
-exact : {levels : List ℤ} {index : List ℕ} {k groups size : ℕ} {zero one : List ℕ} {near : List Held} → Gives levels index k size zero one near → k ≤ groups
+exact : {levels : List ℤ} {index : List ℕ} {k groups size : ℕ} {zero one : List ℕ} {near : List Word} → Gives levels index k size zero one near → k ≤ groups
     → groups ≤ k → Gives levels index groups size zero one near
 exact {k = k} {groups = groups} i l h = let e : k ≡ groups = omega arith in rw e at i
 
@@ -57,8 +57,8 @@ loop-k-smaller c = omega (arith, c.loop-k-test.true)
 pub loop-k-preserved : goal.loop-k-preserved
 loop-k-preserved c =
     let turn = c.loop-k in (
-      all_next turn.invariant.0 c.group_gives.ensures c.of.result c.of.ensures turn.invariant.1 (k-small c.requires.grouped.0 c.loop-k-test.true),
-      length-set turn.near turn.k c.of.result ∙ turn.invariant.1,
+      all_next turn.invariant.0 c.group_gives.ensures c.from.result c.from.ensures turn.invariant.1 (k-small c.requires.grouped.0 c.loop-k-test.true),
+      length-set turn.near turn.k c.from.result ∙ turn.invariant.1,
       omega (arith, c.loop-k-test.true),
     )
 
