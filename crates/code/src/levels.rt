@@ -13,28 +13,24 @@ use word::Word;
 fn fill(x: Word, levels: &mut [i32])
     ensures { (k : ℕ) → length levels.old ≡ 2 ^ k → levels.new ≡ rules.ideal_levels k (word_of x) }
 {
-    let mut i = 0;
-    while i < levels.len() {
-        levels[i] = level::ideal(word::bit(x, i));
-        i += 1;
+    for (i, z) in levels.iter_mut().enumerate() {
+        *z = level::ideal(x.bit(i));
     }
 }
 
 // The words of a message, and the ideal levels of its codeword in a slice of N; refusals 1, 2, 3, 9 leave the slice as it was.
-pub fn encode_levels(code: Code, message: Word, levels: &mut [i32]) -> Encoded
+pub fn encode_levels(code: Code, message: Word, levels: &mut [i32]) -> Result<Encoded, Refusal>
     ensures answer { encoded_of result ≡ encode_levels_answer code.n levels.old (word_of code.frozen) (word_of message) }
     ensures left { levels.new ≡ encode_levels_left code.n levels.old (word_of code.frozen) (word_of message) }
 {
     let n = code.n;
     if word::wrong_size(n) {
-        return Encoded::Refused(Refusal::Size);
+        return Err(Refusal::Size);
     }
     if levels.len() != word::slots(n) {
-        return Encoded::Refused(Refusal::Length);
+        return Err(Refusal::Length);
     }
-    let answer = crate::encode(code, message);
-    if let Encoded::Words(_, x) = answer {
-        fill(x, levels);
-    }
-    answer
+    let encoded = crate::encode(code, message)?;
+    fill(encoded.x, levels);
+    Ok(encoded)
 }

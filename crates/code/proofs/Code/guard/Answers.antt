@@ -1,48 +1,46 @@
 -- `code::Code::guard` meets its contract: past the tests of the code, the figure of its mask.
-use Prim.Native.Nat.{ℕ}
-use mathlib.Core.Path.{◌≡◌, sym, ◌∙◌, ap}
-use native.Mathlib.Omega.{arith}
-use Rattle.rules.specs.Guard.{guard_of, guard_for}
+use Rattle.std.specs.Prelude.{ℕ, ◌*◌, ◌%◌, ◌^◌, ◌≡◌, refl, Option, Some, None, MatchOption, IsSomeAnd}
+use Rattle.std.proofs.Common.{sym, ◌∙◌, ap, arith, rules}
+use Rattle.std.proofs.Math.Option.{some}
+use Rattle.std.proofs.lemmas.Result.{err_from_is_err_and}
+use Rattle.rules.specs.Guard.{fewest_ones, guard_of, guard_for}
 use Rattle.rules.specs.Refusals.{done}
 use Rattle.rules.specs.Orders.{code_order}
 use Rattle.rules.specs.Answers.{guard_answer}
-use Rattle.laws.specs.Answers.Orders.{CodeRight, code_right, passed_done}
-use Rattle.word.specs.Words.{word_of, fewest_of}
+use Rattle.laws.specs.Answers.Orders.{Passed, code_right, passed_done}
+use Rattle.word.specs.Words.{size_of}
+use Rattle.word.specs.Options.{option_of}
 use Rattle.checks.specs.Passing.{code_passed, code_refused}
 use Rattle.code.proofs.Tests.{own_size, fewest_small, guard_fits}
 use Rattle.code.proofs.Code.guard.Goals as goal
-use Rattle.code.proofs.Code.guard.Goals.{In_default}
 
--- the arguments, where the code is right, and what is left to answer there
-abbrev size_at : In_default → ℕ
-size_at c = c.args.self.n
+-- where the code is right, a guard found at the size of its n is the answer
+answered : (n mask : ℕ) → Passed (code_order n mask) → (found given : Option ℕ) → option_of found ≡ fewest_ones (size_of n) mask
+    → option_of given ≡ guard_for (option_of found) → done (option_of given) ≡ guard_answer n mask
+unfolding guard_answer guard_of
+answered n mask right found given fewest figure =
+    let own = own_size n ((code_right n mask).0 right).small in
+    ap done (figure ∙ ap guard_for (rw own at fewest)) ∙ sym (passed_done (code_order n mask) (guard_of n mask) right)
 
-abbrev mask_at : In_default → ℕ
-mask_at c = word_of c.args.self.frozen
+-- an option mapped to figures
+figures : (found given : Option ℕ) {P : ℕ → ℕ → Type 0} → MatchOption found (given ≡ None) (λ w. IsSomeAnd given (P w))
+    → ((w figure : ℕ) → found ≡ Some w → P w figure → figure ≡ 256 * 2 ^ w) → option_of given ≡ guard_for (option_of found)
+figures None given mapped each = ap option_of mapped
+figures (Some w) (Some figure) mapped each = ap some (each w figure refl mapped)
+figures (Some w) None mapped each = absurd mapped
 
-right : (c : In_default) → CodeRight (size_at c) (mask_at c)
-right c = (code_right _ _).0 (code_passed _ _ c.code-verdict.ensures c.in_default.is)
-
-after-code : (c : In_default) → guard_answer (size_at c) (mask_at c) ≡ done (guard_of (size_at c) (mask_at c))
+pub returns-in_err-code : goal.returns-in_err-code
 unfolding guard_answer
-after-code c = passed_done (code_order (size_at c) (mask_at c)) (guard_of (size_at c) (mask_at c)) ((code_right (size_at c) (mask_at c)).1 (right c))
+returns-in_err-code c =
+    let passed_on = err_from_is_err_and c.from_residual.result c.from_residual.ensures.1 in
+    rw (passed_on.1, passed_on.2) (code_refused _ _ c.code.ensures _ c.in_err-code.was)
 
-pub returns-in-Refused : goal.returns-in-Refused
-unfolding guard_answer
-returns-in-Refused c = code_refused _ _ c.code-verdict.ensures _ c.in-Refused.is
+pub map-requires : goal.map-requires
+map-requires c x found _ _ = omega (arith, fewest_small _ _ x (sym c.fewest_ones-fewest.ensures ∙ ap option_of found))
 
-pub overflow_shl-result : goal.overflow_shl-result
-overflow_shl-result c = omega (arith, fewest_small _ _ _ (sym c.fewest_ones-found.ensures ∙ ap fewest_of c.in-Ones.is))
-
-pub returns-in-Ones : goal.returns-in-Ones
-unfolding guard_of
-returns-in-Ones c =
-    let found = sym c.fewest_ones-found.ensures ∙ ap fewest_of c.in-Ones.is in
-    rw (guard_fits _ (fewest_small _ _ _ found))
-    (sym (after-code (goal.at.returns-in-Ones c).In_default ∙ ap (λ w. done (guard_for w)) (rw (own_size _ (right (goal.at.returns-in-Ones c).In_default).small) at found)))
-
-pub returns-in-NoIndex : goal.returns-in-NoIndex
-unfolding guard_of
-returns-in-NoIndex c =
-    let found = sym c.fewest_ones-found.ensures ∙ ap fewest_of c.in-NoIndex.is in
-    sym (after-code (goal.at.returns-in-NoIndex c).In_default ∙ ap (λ w. done (guard_for w)) (rw (own_size _ (right (goal.at.returns-in-NoIndex c).In_default).small) at found))
+pub returns : goal.returns
+returns c =
+    answered _ _ (code_passed _ _ c.code.ensures c.in_ok-code.was) _ _ c.fewest_ones-fewest.ensures
+    (figures _ _ c.map.ensures.cases (λ w figure found mapped.
+    let shifted : figure ≡ 256 * 2 ^ w % 2 ^ 32 = search rules in
+    shifted ∙ guard_fits w (fewest_small _ _ w (sym c.fewest_ones-fewest.ensures ∙ ap option_of found))))

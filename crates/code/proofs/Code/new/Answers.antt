@@ -1,5 +1,6 @@
 -- `code::Code::new` meets its contract.
-use mathlib.Core.Path.{sym}
+use Rattle.std.proofs.Common.{sym}
+use Rattle.std.proofs.lemmas.Result.{err_from_is_err_and}
 use Rattle.rules.specs.Orders.{code_order}
 use Rattle.laws.specs.Answers.Orders.{passed_done}
 use Rattle.word.specs.Words.{word_of}
@@ -7,12 +8,12 @@ use Rattle.checks.specs.Passing.{code_passed, code_refused}
 use Rattle.code.specs.Made.{made_answer}
 use Rattle.code.proofs.Code.new.Goals as goal
 
-pub returns-in-Refused : goal.returns-in-Refused
+pub returns-in_err-code : goal.returns-in_err-code
 unfolding made_answer
-returns-in-Refused c = code_refused _ _ c.code-verdict.ensures _ c.in-Refused.is
+returns-in_err-code c =
+    let passed_on = err_from_is_err_and c.from_residual.result c.from_residual.ensures.1 in
+    rw (passed_on.1, passed_on.2) (code_refused _ _ c.code.ensures _ c.in_err-code.was)
 
 pub returns : goal.returns
 unfolding made_answer
-returns c =
-    let start = c.args in
-    sym (passed_done (code_order start.n (word_of start.frozen)) _ (code_passed _ _ c.code-verdict.ensures c.in_default.is))
+returns c = sym (passed_done (code_order c.args.n (word_of c.args.frozen)) _ (code_passed _ _ c.code.ensures c.in_ok-code.was))

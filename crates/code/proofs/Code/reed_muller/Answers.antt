@@ -2,4 +2,4 @@
 use Rattle.code.proofs.Code.reed_muller.Goals as goal
 
 pub returns : goal.returns
-returns c = λ i. record { n = 6; mask = c.of.ensures i }
+returns c = λ i. record { n = 6; mask = c.from.ensures i }

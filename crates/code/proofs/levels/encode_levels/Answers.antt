@@ -1,6 +1,6 @@
 -- `code::levels::encode_levels` meets its contract.
-use mathlib.Core.Path.{sym, ◌∙◌, ap}
-use Rattle.code.specs.Reading.{encoded_of}
+use Rattle.std.proofs.Common.{sym, ◌∙◌}
+use Rattle.std.proofs.lemmas.Result.{err_from_is_err_and}
 use Rattle.word.specs.Sizes.{slots_right}
 use Rattle.code.proofs.Slices.{levels_size, levels_length, levels_answer, left_refused, left_done}
 use Rattle.code.proofs.levels.encode_levels.Goals as goal
@@ -13,21 +13,22 @@ returns-then-wrong_size c =
 pub returns-then-levels-slots : goal.returns-then-levels-slots
 returns-then-levels-slots c =
     let right = sym c.wrong_size.ensures ∙ c.if-wrong_size.false in
-    let ends = left_refused _ _ _ _ _ (levels_length _ _ _ _ right (λ e. c.if-levels-slots.true (e ∙ sym (slots_right _ right _ c.slots.ensures)))) in
+    let ends =
+    left_refused _ _ _ _ _ (levels_length _ _ _ _ right (λ e. c.if-levels-slots.true (e ∙ sym (slots_right _ right _ c.slots.ensures))))
+    in
     record { answer = ends.0; left = ends.1 }
 
-pub returns-in-Words : goal.returns-in-Words
-returns-in-Words c =
+pub returns-in_err-encoded : goal.returns-in_err-encoded
+returns-in_err-encoded c =
     let right = sym c.wrong_size.ensures ∙ c.if-wrong_size.false in
     let whole = c.if-levels-slots.false ∙ slots_right _ right _ c.slots.ensures in
-    let words = sym (ap encoded_of c.in-Words.is) ∙ c.encode-answer.ensures in
-    let ends = left_done _ _ _ _ _ _ (words ∙ levels_answer _ _ _ _ right whole) in
-    rw (c.fill.ensures _ whole) (record { answer = ends.0; left = ends.1 })
+    let ends = left_refused _ _ _ _ _ (c.in_err-encoded.ensures ∙ levels_answer _ _ _ _ right whole) in
+    let passed_on = err_from_is_err_and c.from_residual.result c.from_residual.ensures.1 in
+    rw (passed_on.1, passed_on.2) (record { answer = ends.0; left = ends.1 })
 
-pub returns-in_default : goal.returns-in_default
-returns-in_default c =
+pub returns : goal.returns
+returns c =
     let right = sym c.wrong_size.ensures ∙ c.if-wrong_size.false in
     let whole = c.if-levels-slots.false ∙ slots_right _ right _ c.slots.ensures in
-    let refusal = sym (ap encoded_of c.in_default.is) ∙ c.encode-answer.ensures in
-    let ends = left_refused _ _ _ _ _ (refusal ∙ levels_answer _ _ _ _ right whole) in
-    rw c.in_default.is (record { answer = ends.0; left = ends.1 })
+    let ends = left_done _ _ _ _ _ _ (c.in_ok-encoded.ensures ∙ levels_answer _ _ _ _ right whole) in
+    rw (c.fill.ensures _ whole) (record { answer = ends.0; left = ends.1 })
