@@ -1,13 +1,14 @@
 // A record's fields from its 144 bytes, or the first refusal of 13, 1, 12, 3, 4, 5. Of a longer slice the first 144 bytes count.
 #![tactic(auto)]
 
-ghost use Rattle.std.specs.Prelude.{◌≡◌, true, map, ◌≤◌, ◌<◌, length};
+ghost use Rattle.std.specs.Prelude.{◌≡◌, true, map, eqb, ◌≤◌, ◌<◌, length};
 ghost use Rattle.rules.specs.Below.{list_below};
-ghost use Rattle.rules.specs.Record.{slot_level, record_bytes, record_slots, read_answer};
+ghost use Rattle.rules.specs.Record.{little_endian, slot_level, record_bytes, record_slots, read_answer};
 ghost use Rattle.record.specs.Reading.{answer_of, zeros_at};
 
 use field::number;
 use refusal::Refusal;
+use std::array;
 use word::Word;
 
 pub const RECORD_BYTES: usize = 144;
@@ -38,27 +39,22 @@ fn levels(bytes: &[u8]) -> [i32; RECORD_SLOTS]
     requires { record_bytes ≤ length bytes.now }
     ensures { result ≡ map (slot_level bytes.now) (list_below record_slots (λ i. true)) }
 {
-    let mut levels = [0; RECORD_SLOTS];
-    for slot in 0..RECORD_SLOTS {
-        levels[slot] = level(bytes, slot);
-    }
-    levels
+    array::from_fn(|slot| level(bytes, slot))
+}
+
+// Whether the number in some bytes is zero, so each of them.
+fn is_zero(bytes: &[u8]) -> bool
+    ensures { result ≡ eqb (little_endian bytes.now) 0 }
+{
+    bytes.iter().all(|byte| *byte == 0)
 }
 
 // Whether bytes 2 and 3 and each level beyond the slots are zero.
 fn zeros(bytes: &[u8], slots: usize) -> bool
-    requires { record_bytes ≤ length bytes.now }
+    requires { (record_bytes ≤ length bytes.now) × (slots ≤ record_slots) }
     ensures { result ≡ zeros_at bytes.now slots }
 {
-    if number(bytes, 2, 2) != 0 {
-        return false;
-    }
-    for i in slots..RECORD_SLOTS {
-        if number(bytes, 16 + 2 * i, 2) != 0 {
-            return false;
-        }
-    }
-    true
+    is_zero(&bytes[2..4]) && is_zero(&bytes[16 + 2 * slots..RECORD_BYTES])
 }
 
 // The fields of a record, or why it is refused.

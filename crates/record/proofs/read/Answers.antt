@@ -1,8 +1,10 @@
 -- `record::read` meets its contract.
-use Prim.Native.Nat.{ℕ, ◌^◌}
+use Prim.Native.Nat.{ℕ, ◌^◌, ◌≤◌}
 use mathlib.Core.Path.{◌≡◌, sym, ◌∙◌, ap}
 use mathlib.Core.Bool.{false}
+use native.Mathlib.Omega.{arith}
 use borrow.Author.Tests.{lt-ltb}
+use Rattle.std.proofs.Math.Pow.{pow_mono}
 use Rattle.std.proofs.lemmas.Result.{err_from_is_err_and}
 use Rattle.rules.specs.Refusals.{is_wrong_size, done}
 use Rattle.rules.specs.Record.{Fields, fields_of}
@@ -46,6 +48,11 @@ pub returns-then-wrong_size : goal.returns-then-wrong_size
 returns-then-wrong_size c =
     let wrong = size-test (goal.at.returns-then-wrong_size c).After-wrong_size ∙ c.if-wrong_size.true in
     sym (after13 _ c.if-bytes-lt-RECORD_BYTES.false ∙ rw wrong)
+
+pub zeros-requires : goal.zeros-requires
+zeros-requires c =
+    let most : 2 ^ size_of c.number-n.result ≤ 2 ^ 6 = pow_mono {j = 6} (omega arith) in
+    (omega arith, omega (arith, c.slots.ensures))
 
 pub returns-then-not-zeros : goal.returns-then-not-zeros
 returns-then-not-zeros c =
