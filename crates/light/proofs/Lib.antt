@@ -1,3 +1,4 @@
 mod Sizes
 mod Taking
+mod Handing
 pub mod Unique

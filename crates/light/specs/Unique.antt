@@ -1,17 +1,16 @@
 -- No second answer: two results that meet the contract of a public function are equal, and so is what they leave in lent memory.
-use Rattle.std.specs.Prelude.{ℕ, ◌≡◌, refl, List, ℤ}
+use Rattle.std.specs.Prelude.{ℕ, ◌≡◌, refl, List, ℤ, Result, Ok, Err}
 use Rattle.std.proofs.Common.{ap}
 use Rattle.rules.specs.Assembling as rules
 use Rattle.rules.specs.Answers.{take_answer, take_left}
-use Rattle.refusal.specs.declared.Refusal.{Refusal}
 use Rattle.refusal.specs.Number.{refusal_of}
+use Rattle.refusal.specs.Results.{answer_by_injective}
 use Rattle.refusal.specs.Unique.{refusal_injective}
+use Rattle.refusal.specs.declared.Refusal.{Refusal}
 use Rattle.laws.specs.Answers.OneAnswer.{one_answer}
-use Rattle.light.specs.Values.{assembler_of, answer_of, Hands, Starts, Gives}
-use Rattle.light.specs.declared.Verdict.{Verdict}
-use Rattle.light.specs.declared.Verdict.TheVariants.{Done, Refused}
+use Rattle.light.specs.Values.{assembler_of, answer_of, handed_of, Hands, Starts, Gives}
 use Rattle.light.specs.declared.Assembler.{Assembler}
-use Rattle.light.specs.declared.Handed.{Handed}
+use Rattle.light.specs.declared.Refused.{Refused}
 
 -- ---- each reading of a value is one to one
 
@@ -21,37 +20,30 @@ assembler_injective a b e = ap back e
     back : rules.Assembler → Assembler
     back a = record { n = a.n; filled = a.filled; levels = a.levels }
 
-refused_injective : {A : Type 0} (p q : Refusal) (x y : A) → answer_of (Refused p) x ≡ answer_of (Refused q) y
-    → refusal_of p ≡ refusal_of q
-refused_injective p q x y e = cc
+refused_equal : (p q : Refused) → refusal_of p.why ≡ refusal_of q.why → p.assembler ≡ q.assembler → p ≡ q
+refused_equal p q w a = let why = refusal_injective p.why q.why w in λ i. record { why = why i; assembler = a i }
 
-verdict_injective : {A : Type 0} (v w : Verdict) (x y : A) → answer_of v x ≡ answer_of w y → v ≡ w
-verdict_injective Done Done x y e = refl
-verdict_injective Done (Refused q) x y e = cc
-verdict_injective (Refused p) Done x y e = cc
-verdict_injective (Refused p) (Refused q) x y e = ap Refused (refusal_injective p q (refused_injective p q x y e))
-
-handed_equal : (q r : Handed) → q.verdict ≡ r.verdict → q.assembler ≡ r.assembler → q ≡ r
-handed_equal q r v a = λ i. record { verdict = v i; assembler = a i }
+-- a result that hands an assembler back, by its answer and that assembler
+handed_equal : {A : Type 0} (f : Assembler → A) (q r : Result Assembler Refused) → answer_of f q ≡ answer_of f r
+    → assembler_of (handed_of q) ≡ assembler_of (handed_of r) → q ≡ r
+handed_equal f (Ok a) (Ok b) v e = ap Ok (assembler_injective a b e)
+handed_equal f (Ok a) (Err q) v e = cc
+handed_equal f (Err p) (Ok b) v e = cc
+handed_equal f (Err p) (Err q) v e = ap Err (refused_equal p q (cc) (assembler_injective p.assembler q.assembler e))
 
 -- ---- each contract has one result
 
 -- `Assembler::new`
-pub one_start : (n : ℕ) (q r : Handed) → Starts n q → Starts n r → q ≡ r
-one_start n q r c d =
-    handed_equal q r
-    (verdict_injective q.verdict r.verdict (assembler_of q.assembler) (assembler_of r.assembler) (one_answer c.verdict d.verdict))
-    (assembler_injective q.assembler r.assembler (one_answer c.left d.left))
+pub one_start : (n : ℕ) (q r : Result Assembler Refused) → Starts n q → Starts n r → q ≡ r
+one_start n q r c d = handed_equal assembler_of q r (one_answer c.verdict d.verdict) (one_answer c.left d.left)
 
 -- `Assembler::take`
-pub one_taken : (a : rules.Assembler) (reading : rules.Reading) (q r : Handed) → Hands (take_answer a reading) (take_left a reading) q
+pub one_taken : (a : rules.Assembler) (reading : rules.Reading) (q r : Result Assembler Refused) → Hands (take_answer a reading) (take_left a reading) q
     → Hands (take_answer a reading) (take_left a reading) r → q ≡ r
-one_taken a reading q r c d =
-    handed_equal q r (verdict_injective q.verdict r.verdict (tt {0}) tt (one_answer c.verdict d.verdict))
-    (assembler_injective q.assembler r.assembler (one_answer c.left d.left))
+one_taken a reading q r c d = handed_equal (λ a. tt {0}) q r (one_answer c.verdict d.verdict) (one_answer c.left d.left)
 
 -- `Assembler::give`
-pub one_given : (a : rules.Assembler) (before m n : List ℤ) (q r : Verdict) → Gives a before m q → Gives a before n r
+pub one_given : (a : rules.Assembler) (before m n : List ℤ) (q r : Result (Unit {0}) Refusal) → Gives a before m q → Gives a before n r
     → (q ≡ r) × (m ≡ n)
 one_given a before m n q r c d =
-    (verdict_injective q r (tt {0}) tt (one_answer c.verdict d.verdict), one_answer c.left d.left)
+    (answer_by_injective (λ u. tt {0}) (λ u v e. refl) q r (one_answer c.verdict d.verdict), one_answer c.left d.left)

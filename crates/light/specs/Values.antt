@@ -1,15 +1,14 @@
 -- How the values of this crate read as those of the rules. The contracts speak through these definitions.
-use Rattle.std.specs.Prelude.{ℕ, ◌^◌, ◌≡◌, List, ℤ}
+use Rattle.std.specs.Prelude.{ℕ, ◌^◌, ◌≡◌, List, ℤ, Result, Ok, Err}
 use Rattle.rules.specs.Assembling as rules
-use Rattle.rules.specs.Refusals.{Answer, refused, done, largest}
+use Rattle.rules.specs.Refusals.{Answer, largest}
 use Rattle.rules.specs.Answers.{new_answer, give_answer, give_left}
-use Rattle.refusal.specs.Number.{refusal_of}
+use Rattle.refusal.specs.Results.{answer_by}
+use Rattle.refusal.specs.declared.Refusal.{Refusal}
 use Rattle.light.specs.declared.Reading.{Reading}
 use Rattle.light.specs.declared.Reading.TheVariants.{Single, Pair, Erased}
-use Rattle.light.specs.declared.Verdict.{Verdict}
-use Rattle.light.specs.declared.Verdict.TheVariants.{Done, Refused}
 use Rattle.light.specs.declared.Assembler.{Assembler}
-use Rattle.light.specs.declared.Handed.{Handed}
+use Rattle.light.specs.declared.Refused.{Refused}
 
 -- the reading
 abbrev pub reading_of : Reading → rules.Reading
@@ -25,22 +24,31 @@ assembler_of a = record { n = a.n; filled = a.filled; levels = a.levels }
 abbrev pub room : ℕ
 room = 2 ^ largest
 
--- the answer, whose success carries what stands beside the verdict
-abbrev pub answer_of : {A : Type 0} → Verdict → A → Answer A
-answer_of Done success = done success
-answer_of (Refused why) success = refused (refusal_of why)
+-- the result without the assembler that a refusal hands back
+abbrev pub verdict_of : Result Assembler Refused → Result Assembler Refusal
+verdict_of (Ok a) = Ok a
+verdict_of (Err r) = Err r.why
+
+-- the assembler that is handed back, with a success or a refusal
+abbrev pub handed_of : Result Assembler Refused → Assembler
+handed_of (Ok a) = a
+handed_of (Err r) = r.assembler
+
+-- the answer of a call that hands an assembler back, whose success is read by a function
+abbrev pub answer_of : {A : Type 0} → (Assembler → A) → Result Assembler Refused → Answer A
+answer_of f r = answer_by f (verdict_of r)
 
 -- what is handed back: the answer, and the assembler
-pub record Hands (answer : Answer (Unit {0})) (state : rules.Assembler) (r : Handed) : Type 0 where
-  pub verdict : answer_of r.verdict tt ≡ answer
-  pub left : assembler_of r.assembler ≡ state
+pub record Hands (answer : Answer (Unit {0})) (state : rules.Assembler) (r : Result Assembler Refused) : Type 0 where
+  pub verdict : answer_of (λ a. tt) r ≡ answer
+  pub left : assembler_of (handed_of r) ≡ state
 
 -- what a new assembler is handed back as: the answer, and on refusal too the empty assembler of that n
-pub record Starts (n : ℕ) (r : Handed) : Type 0 where
-  pub verdict : answer_of r.verdict (assembler_of r.assembler) ≡ new_answer room n
-  pub left : assembler_of r.assembler ≡ rules.start room n
+pub record Starts (n : ℕ) (r : Result Assembler Refused) : Type 0 where
+  pub verdict : answer_of assembler_of r ≡ new_answer room n
+  pub left : assembler_of (handed_of r) ≡ rules.start room n
 
 -- what giving out leaves: the answer, and the slice afterwards
-pub record Gives (a : rules.Assembler) (before after : List ℤ) (r : Verdict) : Type 0 where
-  pub verdict : answer_of r tt ≡ give_answer a before
+pub record Gives (a : rules.Assembler) (before after : List ℤ) (r : Result (Unit {0}) Refusal) : Type 0 where
+  pub verdict : answer_by (λ u. tt) r ≡ give_answer a before
   pub left : after ≡ give_left a before

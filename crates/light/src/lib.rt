@@ -1,202 +1,153 @@
 // From light to levels: readings, and the assembler of one block.
 #![tactic(auto)]
 
-ghost use Rattle.std.specs.Prelude.{◌≡◌, ◌+◌, ◌≤◌, ◌<◌, length, take};
+ghost use Rattle.std.specs.Prelude.{◌≡◌, ◌<◌};
 ghost use Rattle.rules.specs.Assembling as rules;
 ghost use Rattle.rules.specs.Answers.{take_answer, take_left};
+ghost use Rattle.refusal.specs.Results.{answer_by};
 ghost use Rattle.light.specs.Values.{reading_of, assembler_of, room, Hands, Starts, Gives};
-ghost use Rattle.light.specs.Steps.{is_wrong, Fills, Takes};
+ghost use Rattle.light.specs.Steps.{is_wrong, Fills, LevelAt, taken_answer};
 
 use refusal::Refusal;
-use sample::Quantised;
 
 // N at the largest n: how many levels an assembler has room for.
 const ROOM: usize = word::SLOTS;
 
 // An in-phase and a quadrature sample.
-#[derive(Clone, Copy)]
+#[derive(Clone, Copy, Debug)]
 pub struct Pair {
     pub in_phase: f32,
     pub quadrature: f32,
 }
 
 // A single sample, a pair of samples, or an erased slot.
-#[derive(Clone, Copy)]
+#[derive(Clone, Copy, Debug)]
 pub enum Reading {
     Single(f32),
     Pair(Pair),
     Erased,
 }
 
-// What a call that can be refused answers.
-#[derive(Clone, Copy)]
-pub enum Verdict {
-    Done,
-    Refused(Refusal),
-}
-
 // The levels of a block for one n, as far as it is filled, and zeros behind them.
-#[derive(Clone, Copy)]
+#[derive(Clone, Copy, Debug)]
 pub struct Assembler {
     pub n: u32,
     pub filled: usize,
     pub levels: [i32; ROOM],
 }
 
-// A verdict, and the assembler that is handed back with it.
-#[derive(Clone, Copy)]
-pub struct Handed {
-    pub verdict: Verdict,
+// Why a call was refused, and the assembler that is handed back with the refusal.
+#[derive(Clone, Copy, Debug)]
+pub struct Refused {
+    pub why: Refusal,
     pub assembler: Assembler,
 }
 
-// Whether an assembler of this n and so many slots filled is refused.
-fn is_wrong(n: u32, filled: usize) -> bool
-    ensures { result ≡ is_wrong n filled }
+// The level of a sample that stands at this place in its reading; refusal 11 names the place.
+fn level_at(sample: f32, place: usize) -> Result<i32, Refusal>
+    ensures { LevelAt sample place result }
 {
-    if word::wrong_size(n) {
-        return true;
-    }
-    filled > 1usize << n
+    sample::level(sample).ok_or(Refusal::NotFinite(place))
 }
 
-// How many slots a reading needs.
-fn slots_needed(reading: Reading) -> usize
-    ensures { result ≡ rules.slots_needed (reading_of reading) }
-{
-    match reading {
-        Reading::Single(_) => 1,
-        Reading::Pair(_) => 2,
-        Reading::Erased => 1,
-    }
-}
-
-// The levels of a full assembler into a slice of N.
-fn copy(levels: &[i32; ROOM], out: &mut [i32])
-    requires { (length levels.now ≡ room) × (length out.old ≤ room) }
-    ensures { out.new ≡ take (length out.old) levels.now }
-{
-    let mut i = 0;
-    while i < out.len() {
-        out[i] = levels[i];
-        i += 1;
+impl Reading {
+    // How many slots the reading needs.
+    fn slots_needed(self) -> usize
+        ensures { result ≡ rules.slots_needed (reading_of self) }
+    {
+        match self {
+            Reading::Single(_) => 1,
+            Reading::Pair(_) => 2,
+            Reading::Erased => 1,
+        }
     }
 }
 
 impl Assembler {
-    // An assembler for one n, empty, with every level 0; on refusal it is that too.
-    pub fn new(n: u32) -> Handed
+    // An assembler for one n, empty, with every level 0; a refusal hands back that too.
+    pub fn new(n: u32) -> Result<Assembler, Refused>
         ensures { Starts n result }
     {
         let assembler = Assembler {
             n,
             filled: 0,
-            levels: [0i32; ROOM],
+            levels: [0; ROOM],
         };
         if word::wrong_size(n) {
-            return assembler.refused(Refusal::Size);
+            return Err(Refused {
+                why: Refusal::Size,
+                assembler,
+            });
         }
-        assembler.done()
+        Ok(assembler)
     }
 
-    // The assembler with the next slots filled from a reading; on refusal the assembler that came in.
-    pub fn take(self, reading: Reading) -> Handed
+    // The assembler with the next slots filled from a reading; a refusal hands back the assembler that came in.
+    pub fn take(self, reading: Reading) -> Result<Assembler, Refused>
         ensures { Hands (take_answer (assembler_of self) (reading_of reading)) (take_left (assembler_of self) (reading_of reading)) result }
     {
-        let n = self.n;
-        let filled = self.filled;
-        if is_wrong(n, filled) {
-            return self.refused(Refusal::Size);
-        }
-        if filled + slots_needed(reading) > 1usize << n {
-            return self.refused(Refusal::NoRoom);
-        }
-        match reading {
-            Reading::Single(s) => self.take_single(s),
-            Reading::Pair(p) => self.take_pair(p),
-            Reading::Erased => self.fill(0).done(),
-        }
+        self.taken(reading).map_err(|why| Refused {
+            why,
+            assembler: self,
+        })
     }
 
     // The N levels of a full assembler into out; a refusal leaves out as it was.
-    pub fn give(self, out: &mut [i32]) -> Verdict
+    pub fn give(self, out: &mut [i32]) -> Result<(), Refusal>
         ensures { Gives (assembler_of self) out.old out.new result }
     {
-        let n = self.n;
-        let filled = self.filled;
-        if is_wrong(n, filled) {
-            return Verdict::Refused(Refusal::Size);
+        if self.is_wrong() {
+            return Err(Refusal::Size);
         }
-        let size = 1usize << n;
-        if filled < size {
-            return Verdict::Refused(Refusal::NotFull);
+        let size = word::slots(self.n);
+        if self.filled < size {
+            return Err(Refusal::NotFull);
         }
         if out.len() != size {
-            return Verdict::Refused(Refusal::Length);
+            return Err(Refusal::Length);
         }
-        let levels = self.levels;
-        copy(&levels, out);
-        Verdict::Done
+        out.copy_from_slice(&self.levels[..size]);
+        Ok(())
     }
 
-    // A single sample into one slot.
-    fn take_single(self, s: f32) -> Handed
-        requires { self.filled < room }
-        ensures { Takes (assembler_of self) (rules.single s) result }
+    // Whether the n is not 1..6, or more than N slots are filled.
+    fn is_wrong(self) -> bool
+        ensures { result ≡ is_wrong self.n self.filled }
     {
-        match sample::level(s) {
-            Quantised::Level(z) => self.fill(z).done(),
-            Quantised::NotFinite => self.refused(Refusal::NotFinite(0)),
-        }
+        word::wrong_size(self.n) || self.filled > word::slots(self.n)
     }
 
-    // A pair into two neighbouring slots, in phase first.
-    fn take_pair(self, p: Pair) -> Handed
-        requires { self.filled + 1 < room }
-        ensures { Takes (assembler_of self) (rules.pair p.in_phase p.quadrature) result }
+    // The assembler with the next slots filled from a reading, or the refusal alone.
+    fn taken(self, reading: Reading) -> Result<Assembler, Refusal>
+        ensures { answer_by assembler_of result ≡ taken_answer (assembler_of self) (reading_of reading) }
     {
-        match sample::level(p.in_phase) {
-            Quantised::NotFinite => self.refused(Refusal::NotFinite(0)),
-            Quantised::Level(first) => match sample::level(p.quadrature) {
-                Quantised::NotFinite => self.refused(Refusal::NotFinite(1)),
-                Quantised::Level(second) => self.fill(first).fill(second).done(),
-            },
+        if self.is_wrong() {
+            return Err(Refusal::Size);
+        }
+        if self.filled + reading.slots_needed() > word::slots(self.n) {
+            return Err(Refusal::NoRoom);
+        }
+        match reading {
+            Reading::Single(s) => {
+                let level = level_at(s, 0)?;
+                Ok(self.fill(level))
+            }
+            Reading::Pair(p) => {
+                let first = level_at(p.in_phase, 0)?;
+                let second = level_at(p.quadrature, 1)?;
+                Ok(self.fill(first).fill(second))
+            }
+            Reading::Erased => Ok(self.fill(0)),
         }
     }
 
     // The next slot filled.
-    fn fill(self, level: i32) -> Assembler
+    fn fill(mut self, level: i32) -> Assembler
         requires { self.filled < room }
         ensures { Fills self level result }
     {
-        let n = self.n;
-        let at = self.filled;
-        let mut levels = self.levels;
-        levels[at] = level;
-        Assembler {
-            n,
-            filled: at + 1,
-            levels,
-        }
-    }
-
-    // Handed back with a success.
-    fn done(self) -> Handed
-        ensures { (result.verdict ≡ Verdict.Done) × (result.assembler ≡ self) }
-    {
-        Handed {
-            verdict: Verdict::Done,
-            assembler: self,
-        }
-    }
-
-    // Handed back with a refusal.
-    fn refused(self, why: Refusal) -> Handed
-        ensures { (result.verdict ≡ Verdict.Refused why) × (result.assembler ≡ self) }
-    {
-        Handed {
-            verdict: Verdict::Refused(why),
-            assembler: self,
-        }
+        self.levels[self.filled] = level;
+        self.filled += 1;
+        self
     }
 }

@@ -1,5 +1,5 @@
 -- `light::Assembler::new` meets its contract.
-use mathlib.Core.Path.{◌≡◌, sym, ◌∙◌}
+use mathlib.Core.Path.{◌≡◌, refl, sym, ◌∙◌}
 use mathlib.Core.Bool.{true, false}
 use Rattle.rules.specs.Refusals.{is_wrong_size}
 use Rattle.rules.specs.Answers.{new_answer}
@@ -9,10 +9,10 @@ pub returns-then-wrong_size : goal.returns-then-wrong_size
 unfolding new_answer
 returns-then-wrong_size c =
     let e : is_wrong_size c.args.n ≡ true = sym c.wrong_size.ensures ∙ c.if-wrong_size.true in
-    record { verdict = rw (e, c.refused.ensures.0); left = rw c.refused.ensures.1 }
+    record { verdict = rw e; left = refl }
 
 pub returns : goal.returns
 unfolding new_answer
 returns c =
     let e : is_wrong_size c.args.n ≡ false = sym c.wrong_size.ensures ∙ c.if-wrong_size.false in
-    record { verdict = rw (e, c.done.ensures.0, c.done.ensures.1); left = rw c.done.ensures.1 }
+    record { verdict = rw e; left = refl }
