@@ -7,6 +7,7 @@ use native.Mathlib.Decide.{dec_le}
 use native.Mathlib.Omega.{arith}
 use lib.ListN.{length, take, drop}
 use lib.Seq.{take_at}
+use Rattle.std.specs.Prelude.{Result, Ok}
 use Rattle.rules.specs.Refusals.{done}
 use Rattle.rules.specs.Record.{record_bytes, read_answer, record_answer}
 use Rattle.rules.specs.Request.{Request, write_order, write_answer, record_of, write_left}
@@ -21,14 +22,13 @@ use Rattle.laws.specs.Answers.Sent.{answer_sent}
 use Rattle.laws.proofs.Answers.Sent.{made-decoded}
 use Rattle.request.specs.Reading.{request_in}
 use Rattle.request.specs.Writing.{written_of, Wrote}
-use Rattle.request.specs.declared.written.Written.{Written}
-use Rattle.request.specs.declared.written.Written.TheVariants.{Record}
+use Rattle.request.specs.declared.written.NotWritten.{NotWritten}
 use Rattle.request.proofs.written.write.Reads as write
 
 some-injective : {A : Type 0} {a b : A} → some a ≡ some b → a ≡ b
 some-injective e = cc
 
-module _ {request : Request} {before after : List ℕ} {written : Written} (w : Wrote request before written after) (is : written ≡ Record) where
+module _ {request : Request} {before after : List ℕ} {written : Result (Unit {0}) NotWritten} (w : Wrote request before written after) (is : written ≡ Ok tt) where
   -- where a record is written, there was room
   roomy : record_bytes ≤ length before
   roomy = go (dec_le record_bytes (length before))
@@ -53,11 +53,11 @@ module _ {request : Request} {before after : List ℕ} {written : Written} (w : 
       rw is_front (take_at (record_of request) (drop record_bytes before) record_bytes (record_length request right))
 
 -- where a record was written and its allowance has 32 bits, the front of the buffer is read back
-pub write_read_back : ShownLeft write.Learnt (λ κs a r v. r ≡ Record → a.0.allowance < 256 ^ 4
+pub write_read_back : ShownLeft write.Learnt (λ κs a r v. r ≡ Ok tt → a.0.allowance < 256 ^ 4
     → read_answer (take record_bytes v.1.0.now) ≡ done (written_fields (request_in a.0)))
 write_read_back κs a r v w is small = rw (front w is) (read_back (request_in a.0) (right w is) small)
 
 -- and decoded to the message
-pub write_decoded : ShownLeft write.Learnt (λ κs a r v. r ≡ Record → a.0.allowance < 256 ^ 4
+pub write_decoded : ShownLeft write.Learnt (λ κs a r v. r ≡ Ok tt → a.0.allowance < 256 ^ 4
     → record_answer (take record_bytes v.1.0.now) ≡ answer_sent (request_in a.0))
 write_decoded κs a r v w is small = rw (front w is) (made-decoded (request_in a.0) (right w is) small)

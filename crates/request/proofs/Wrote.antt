@@ -8,6 +8,7 @@ use lib.IntN.{ℤ, pos}
 use lib.ListN.{length, get_or}
 use lib.Seq.{sets, sets-eq}
 use borrow.Author.Tests.{lt-ltb, le-ltb}
+use Rattle.std.specs.Prelude.{Ok, Err}
 use Rattle.rules.specs.Refusals as rules
 use Rattle.rules.specs.Answers.{encoded}
 use Rattle.rules.specs.Record.{record_bytes, record_slots}
@@ -22,7 +23,7 @@ use Rattle.refusal.specs.Number.{refusal_of}
 use Rattle.refusal.specs.declared.Refusal.{Refusal}
 use Rattle.text.specs.Puts.{Put}
 use Rattle.request.specs.Writing.{level_in, slot_bytes, Wrote}
-use Rattle.request.specs.declared.written.Written.TheVariants.{Record, NoRoom, Refused}
+use Rattle.request.specs.declared.written.NotWritten.TheVariants.{NoRoom, Refused}
 
 -- the codeword that a request's record carries
 abbrev sent : Request → ℕ
@@ -41,12 +42,12 @@ record_parts r right =
 
 module _ (r : Request) (before : List ℕ) where
   -- there is no room
-  pub wrote_none : length before < record_bytes → Wrote r before NoRoom before
+  pub wrote_none : length before < record_bytes → Wrote r before (Err NoRoom) before
   wrote_none l = record { small = λ less. (refl, refl); wide = λ room. absurd (omega arith) }
 
   -- the request is refused
   pub wrote_refused : {A : Type 0} (a : A) (refusal : Refusal) → record_bytes ≤ length before → rules.answer (write_order r) a ≡ rules.refused (refusal_of refusal)
-      → Wrote r before (Refused refusal) before
+      → Wrote r before (Err (Refused refusal)) before
   unfolding write_answer write_left
   wrote_refused a refusal l e =
       let so : write_answer r ≡ rules.refused (refusal_of refusal) = refused_so (write_order r) a tt _ e in
@@ -54,7 +55,7 @@ module _ (r : Request) (before : List ℕ) where
 
   -- the record is written
   pub wrote_record : {x slots end : ℕ} {after : List ℕ} → record_bytes ≤ length before → Passed (write_order r) → sent r ≡ x → slots ≡ 2 ^ r.n
-      → Put before 0 (header r ++ slot_bytes x slots record_slots) end after → Wrote r before Record after
+      → Put before 0 (header r ++ slot_bytes x slots record_slots) end after → Wrote r before (Ok tt) after
   unfolding write_answer write_left
   wrote_record l right word all put =
       let so : write_answer r ≡ rules.done tt = passed_done (write_order r) tt right in

@@ -12,8 +12,8 @@ ghost use Rattle.word.specs.Words.{word_of};
 ghost use Rattle.code.specs.Reading.{encoded_of};
 ghost use Rattle.request.specs.Reading.{request_in, asked_of};
 
-use checks::Verdict;
 use code::{Code, Encoded};
+use field::number;
 use refusal::Refusal;
 use word::Word;
 
@@ -28,21 +28,11 @@ pub struct Request {
     pub message: Word,
 }
 
-// A request, or why there is none.
-#[derive(Clone, Copy)]
-pub enum Asked {
-    Request(Request),
-    Refused(Refusal),
-}
-
 // The words of the request's message; refusals 1, 3, 4, 5, 9.
-fn encoded(request: Request) -> Encoded
+fn encoded(request: Request) -> Result<Encoded, Refusal>
     ensures { encoded_of result ≡ answer (write_order (request_in request)) (rules.encoded request.n (word_of request.mask) (word_of request.message)) }
 {
-    let verdict = checks::folded(request.n, request.mask, request.folding);
-    if let Verdict::Refused(refusal) = verdict {
-        return Encoded::Refused(refusal);
-    }
+    checks::folded(request.n, request.mask, request.folding)?;
     let code = Code {
         n: request.n,
         frozen: request.mask,
@@ -51,29 +41,26 @@ fn encoded(request: Request) -> Encoded
 }
 
 // The fields of a request, or why it is refused. Of a longer slice the first 24 bytes count.
-pub fn read(bytes: &[u8]) -> Asked
+pub fn read(bytes: &[u8]) -> Result<Request, Refusal>
     ensures { asked_of result ≡ request_answer bytes.now }
 {
     if bytes.len() < REQUEST_BYTES {
-        return Asked::Refused(Refusal::Short);
+        return Err(Refusal::Short);
     }
-    let n = field::one(bytes, 0) as u32;
+    let n = number(bytes, 0, 1) as u32;
     if word::wrong_size(n) {
-        return Asked::Refused(Refusal::Size);
+        return Err(Refusal::Size);
     }
-    if field::two(bytes, 2) != 0 {
-        return Asked::Refused(Refusal::NotZero);
+    if number(bytes, 2, 2) != 0 {
+        return Err(Refusal::NotZero);
     }
     let request = Request {
         n,
-        folding: field::one(bytes, 1) as u32,
-        allowance: field::four(bytes, 4),
-        mask: word::of(field::eight(bytes, 8)),
-        message: word::of(field::eight(bytes, 16)),
+        folding: number(bytes, 1, 1) as u32,
+        allowance: number(bytes, 4, 4) as u32,
+        mask: Word::from(number(bytes, 8, 8)),
+        message: Word::from(number(bytes, 16, 8)),
     };
-    let words = encoded(request);
-    if let Encoded::Refused(refusal) = words {
-        return Asked::Refused(refusal);
-    }
-    Asked::Request(request)
+    encoded(request)?;
+    Ok(request)
 }

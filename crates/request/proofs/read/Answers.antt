@@ -7,15 +7,17 @@ use mathlib.Core.List.{List, ◌∷◌}
 use lib.Dec.{ltb, eqb}
 use lib.ListN.{length}
 use borrow.Author.Tests.{lt-ltb, le-ltb, eq-eqb, ne_eqb}
+use Rattle.std.proofs.lemmas.Result.{err_from_is_err_and}
 use Rattle.rules.specs.Refusals.{Refusal, answer, refuse, is_wrong_size}
 use Rattle.rules.specs.Record.{number_at}
 use Rattle.rules.specs.Request.{Request, request_bytes, request_of, request_answer, write_order}
-use Rattle.laws.specs.Answers.Orders.{passed, passed_done, refused_so}
+use Rattle.laws.specs.Answers.Orders.{passed_done}
 use Rattle.laws.proofs.Answers.Requests.{request_parts}
+use Rattle.refusal.specs.Results.{result_passed, result_refused}
 use Rattle.word.specs.Words.{word_of}
-use Rattle.code.specs.Reading.{encoded_of}
+use Rattle.code.specs.Reading.{words_of}
 use Rattle.request.proofs.read.Goals as goal
-use Rattle.request.proofs.read.Goals.{After-wrong_size, Else-wrong_size, After-encoded-words}
+use Rattle.request.proofs.read.Goals.{After-wrong_size, Else-wrong_size, After-encoded}
 
 -- ---- the order from each test on
 
@@ -43,39 +45,39 @@ after12 : (bytes : List ℕ) → 24 ≤ length bytes → is_wrong_size (number_a
 after12 bytes long right zeros = after1 bytes long right ∙ rw (eq-eqb _ 0 zeros)
 
 size-test : (c : After-wrong_size) → is_wrong_size (number_at c.args.bytes.now 0 1) ≡ c.wrong_size.result
-size-test c = rw (← c.one-n.ensures) (sym c.wrong_size.ensures)
+size-test c = rw (← c.number-n.ensures.value) (sym c.wrong_size.ensures)
 
 size_right : (c : Else-wrong_size) → is_wrong_size (number_at c.args.bytes.now 0 1) ≡ false
-size_right c = rw (← c.one-n.ensures) (sym c.wrong_size.ensures ∙ c.if-wrong_size.false)
+size_right c = rw (← c.number-n.ensures.value) (sym c.wrong_size.ensures ∙ c.if-wrong_size.false)
 
 -- ---- the request that was read is the rules'
 
-abbrev fields_read : After-encoded-words → Request
+abbrev fields_read : After-encoded → Request
 fields_read c =
     record {
-      n = c.one-n.result;
-      folding = c.one.result;
-      allowance = c.four.result;
-      mask = word_of c.of.result;
-      message = word_of c.of-2.result;
+      n = c.number-n.result;
+      folding = c.number-2.result;
+      allowance = c.number-3.result;
+      mask = word_of c.from.result;
+      message = word_of c.from-2.result;
     }
 
-fields_read_lem : (c : After-encoded-words) → fields_read c ≡ request_of c.args.bytes.now
+fields_read_lem : (c : After-encoded) → fields_read c ≡ request_of c.args.bytes.now
 unfolding request_of
 fields_read_lem c i =
     record {
-      n = c.one-n.ensures i;
-      folding = c.one.ensures i;
-      allowance = c.four.ensures i;
-      mask = (c.of.ensures ∙ c.eight.ensures) i;
-      message = (c.of-2.ensures ∙ c.eight-2.ensures) i;
+      n = c.number-n.ensures.value i;
+      folding = c.number-2.ensures.value i;
+      allowance = c.number-3.ensures.value i;
+      mask = (c.from.ensures ∙ c.number-4.ensures.value) i;
+      message = (c.from-2.ensures ∙ c.number-5.ensures.value) i;
     }
 
 -- what the rules answer is what encoding its message leaves
-answer-read : (c : After-encoded-words) → is_wrong_size (number_at c.args.bytes.now 0 1) ≡ false
+answer-read : (c : After-encoded) → is_wrong_size (number_at c.args.bytes.now 0 1) ≡ false
     → request_answer c.args.bytes.now ≡ answer (write_order (fields_read c)) (fields_read c)
 answer-read c right =
-    after12 _ c.if-bytes-lt-REQUEST_BYTES.false right (sym c.two.ensures ∙ c.if-two-ne0.false)
+    after12 _ c.if-bytes-lt-REQUEST_BYTES.false right (sym c.number.ensures.value ∙ c.if-number-ne0.false)
     ∙ ap (λ (r : Request). answer (write_order r) r) (sym (fields_read_lem c))
 
 pub returns-then-bytes-lt-REQUEST_BYTES : goal.returns-then-bytes-lt-REQUEST_BYTES
@@ -86,24 +88,26 @@ returns-then-wrong_size c =
     let wrong = size-test (goal.at.returns-then-wrong_size c).After-wrong_size ∙ c.if-wrong_size.true in
     sym (after13 _ c.if-bytes-lt-REQUEST_BYTES.false ∙ rw wrong)
 
-pub returns-then-two-ne0 : goal.returns-then-two-ne0
-returns-then-two-ne0 c =
-    let right = size_right (goal.at.returns-then-two-ne0 c).Else-wrong_size in
-    sym (after1 _ c.if-bytes-lt-REQUEST_BYTES.false right ∙ rw (ne_eqb _ 0 (λ e. c.if-two-ne0.true (c.two.ensures ∙ e))))
+pub returns-then-number-ne0 : goal.returns-then-number-ne0
+returns-then-number-ne0 c =
+    let right = size_right (goal.at.returns-then-number-ne0 c).Else-wrong_size in
+    sym (after1 _ c.if-bytes-lt-REQUEST_BYTES.false right ∙ rw (ne_eqb _ 0 (λ e. c.if-number-ne0.true (c.number.ensures.value ∙ e))))
 
-pub returns-in-Refused : goal.returns-in-Refused
-returns-in-Refused c =
-    let at = goal.at.returns-in-Refused c in
-    let words = at.After-encoded-words in
-    sym
+pub returns-in_err-encoded : goal.returns-in_err-encoded
+returns-in_err-encoded c =
+    let at = goal.at.returns-in_err-encoded c in
+    let words = at.After-encoded in
+    let same = err_from_is_err_and c.from_residual.result c.from_residual.ensures.1 in
+    rw (same.1, same.2)
+    (sym
     (answer-read words (size_right at.Else-wrong_size)
-    ∙ refused_so (write_order (fields_read words)) _ _ _ (sym c.encoded-words.ensures ∙ ap encoded_of c.in-Refused.is))
+    ∙ sym (result_refused words_of (write_order (fields_read words)) _ c.encoded.ensures _ c.in_err-encoded.was)))
 
 pub returns : goal.returns
 returns c =
     let at = goal.at.returns c in
-    let words = at.After-encoded-words in
+    let words = at.After-encoded in
     let order = write_order (fields_read words) in
     sym
     (answer-read words (size_right at.Else-wrong_size)
-    ∙ passed_done order _ (passed order _ _ (sym c.encoded-words.ensures ∙ ap encoded_of c.in_default.is)).0)
+    ∙ passed_done order _ (result_passed words_of order _ c.encoded.ensures c.in_ok-encoded.was).0)

@@ -58,4 +58,4 @@ put-requires c = room 8 (allowance-put (goal.at.put-requires c).After-put-at-4) 
 
 pub returns : goal.returns
 returns c =
-    rw (← c.low.ensures) (put_then (allowance-put (goal.at.returns c).After-put-at-4) c.put.ensures)
+    rw (← c.from.ensures) (put_then (allowance-put (goal.at.returns c).After-put-at-4) c.put.ensures)
