@@ -5,4 +5,4 @@ use Rattle.rules.specs.Refusals.{largest}
 use Rattle.matrix.proofs.map.Goals as goal
 
 pub returns : goal.returns
-returns c = c.from-2.ensures ∙ c.map64.ensures ∙ ap (codeword largest) c.from.ensures
+returns c = c.from-2.ensures ∙ c.mapped.ensures ∙ ap (codeword largest) c.from.ensures
