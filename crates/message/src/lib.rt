@@ -1,10 +1,11 @@
 // Messages: to an information word and back, bit by bit over the unfrozen indices.
 #![tactic(auto)]
 
-ghost use Rattle.std.specs.Prelude.{cond, ◌≡◌, ◌*◌, ◌^◌, ◌<◌};
+ghost use Rattle.std.specs.Prelude.{Bool, ◌≡◌, ◌*◌, ◌^◌, ◌<◌};
 ghost use Rattle.rules.specs.Refusals.{largest};
 ghost use Rattle.rules.specs.Word as rules;
 ghost use Rattle.word.specs.Words.{word_of, size_of};
+ghost use Rattle.message.specs.Ends.{Goes, turned_word};
 
 use word::Word;
 
@@ -13,27 +14,21 @@ fn moved(b: u32, i: usize) -> u64
     requires { (b < 2) × (i < 2 ^ largest) }
     ensures { result ≡ b * 2 ^ i }
 {
-    (b as u64) << i
+    u64::from(b) << i
 }
 
-// One of two numbers.
-fn either(first: bool, a: usize, b: usize) -> usize
-    ensures { result ≡ cond first a b }
+// A word's bits over the unfrozen indices in turn. Of each index's place among them and the index, `ends` says from where its bit
+// comes and where it goes: from the place to the index, or from the index to the place.
+fn turned<F: Fn(usize, usize) -> (usize, usize)>(n: u32, frozen: Word, w: Word, ends: F) -> Word
+    requires callable { F.IsAlwaysCallable ends }
+    requires way { (packs : Bool) × Goes (F.post ends) packs }
+    ensures { (packs : Bool) → Goes (F.post ends) packs → word_of result ≡ turned_word packs (size_of n) (word_of frozen) (word_of w) }
 {
-    if first { a } else { b }
-}
-
-// A word's bits over the unfrozen indices in turn: each from its index to its place, or back from its place to its index.
-fn turned(n: u32, frozen: Word, w: Word, packs: bool) -> Word
-    ensures { word_of result ≡ cond packs (rules.gather (size_of n) (word_of frozen) (word_of w)) (rules.spread (size_of n) (word_of frozen) (word_of w)) }
-{
-    let slots = word::slots(n);
     let mut r: u64 = 0;
     let mut place = 0;
-    for i in 0..slots {
+    for i in 0..word::slots(n) {
         if frozen.bit(i) == 0 {
-            let from = either(packs, i, place);
-            let to = either(packs, place, i);
+            let (from, to) = ends(place, i);
             r += moved(w.bit(from), to);
             place += 1;
         }
@@ -45,12 +40,12 @@ fn turned(n: u32, frozen: Word, w: Word, packs: bool) -> Word
 pub fn spread(n: u32, frozen: Word, message: Word) -> Word
     ensures { word_of result ≡ rules.spread (size_of n) (word_of frozen) (word_of message) }
 {
-    turned(n, frozen, message, false)
+    turned(n, frozen, message, |place, index| (place, index))
 }
 
 // The message of an information word: its bits at the unfrozen indices in turn.
 pub fn gather(n: u32, frozen: Word, d: Word) -> Word
     ensures { word_of result ≡ rules.gather (size_of n) (word_of frozen) (word_of d) }
 {
-    turned(n, frozen, d, true)
+    turned(n, frozen, d, |place, index| (index, place))
 }

@@ -4,4 +4,4 @@ use lib.Pow.{shl_exact}
 use Rattle.message.proofs.moved.Goals as goal
 
 pub returns : goal.returns
-returns c = shl_exact 1 c.args.i 64 c.requires.0 (omega (arith, c.requires.1))
+returns c = rw c.from.ensures (shl_exact 1 c.args.i 64 c.requires.0 (omega (arith, c.requires.1)))
