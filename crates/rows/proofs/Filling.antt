@@ -10,6 +10,7 @@ use lib.ListN.{get_or}
 use lib.Pow.{pow_mono, pow_pos}
 use Rattle.laws.specs.Rows.SortedRows.{row_of, row-length}
 use Rattle.rows.specs.Adding.{Sized, adds, RowsRight}
+use Rattle.rows.specs.declared.seat.Added.{Added}
 use Rattle.rows.specs.Cells.{cell, Shaped, Room, Placed, Kept, Built, Filled}
 use Rattle.rows.proofs.Cells.{cell_at}
 use Rattle.rows.proofs.Places.{place}
@@ -26,13 +27,13 @@ place_room {size = size} g l few =
     record { inside = omega (arith, p.start); edge = omega (arith, p.edge, pow_mono few) }
 
 -- no row yet
-pub filled_none : {zeros ones : List ℕ} (size t : ℕ) {first : ℕ} {old : List (List ℕ)} → Shaped old → Filled zeros ones size t first first old old
+pub filled_none : {seats : List Added} (size t : ℕ) {first : ℕ} {old : List (List ℕ)} → Shaped old → Filled seats size t first first old old
 filled_none size t s = record { shaped = s; kept = λ p l. refl; built = λ k j l h. absurd (omega arith) }
 
-module _ {zeros ones : List ℕ} {size t first last : ℕ} {old table : List (List ℕ)} where
+module _ {seats : List Added} {size t first last : ℕ} {old table : List (List ℕ)} where
   -- one row more
-  pub filled_more : Filled zeros ones size t first last old table → first ≤ last → t ≤ size → {new : List (List ℕ)}
-      → Placed table (last * 2 ^ size) (row_of (adds zeros ones (last * size)) t) new → Filled zeros ones size t first (last + 1) old new
+  pub filled_more : Filled seats size t first last old table → first ≤ last → t ≤ size → {new : List (List ℕ)}
+      → Placed table (last * 2 ^ size) (row_of (adds seats (last * size)) t) new → Filled seats size t first (last + 1) old new
   filled_more f above few {new} r = record {
     shaped = r.shaped;
     kept = λ p l. r.same p (inl (omega (arith, mul-le-mul_right (2 ^ size) above))) ∙ f.kept p l;
@@ -40,33 +41,33 @@ module _ {zeros ones : List ℕ} {size t first last : ℕ} {old table : List (Li
   }
     where
       built : (k j : ℕ) → first ≤ k → k < last + 1 → j < 2 ^ t → Dec (k ≡ last)
-          → cell new (k * 2 ^ size + j) ≡ get_or (row_of (adds zeros ones (k * size)) t) j 0
-      built k j low high l (yes e) = rw e (r.stored j (rw (row-length (adds zeros ones (last * size)) t) l))
+          → cell new (k * 2 ^ size + j) ≡ get_or (row_of (adds seats (k * size)) t) j 0
+      built k j low high l (yes e) = rw e (r.stored j (rw (row-length (adds seats (last * size)) t) l))
       built k j low high l (no n) =
           let before : k < last = omega arith in
           r.same (k * 2 ^ size + j) (inl (omega (arith, place-before (2 ^ size) before, pow_mono few))) ∙ f.built k j low before l
 
   -- what stands is stored, seen from now on
-  pub filled_now : Filled zeros ones size t first last old table → Filled zeros ones size t first last table table
+  pub filled_now : Filled seats size t first last old table → Filled seats size t first last table table
   filled_now f = record { shaped = f.shaped; kept = λ p l. refl; built = f.built }
 
   -- rows stored into a table that was kept so far
-  pub filled_kept : Kept old (first * 2 ^ size) table → {new : List (List ℕ)} → Filled zeros ones size t first last table new
-      → Filled zeros ones size t first last old new
+  pub filled_kept : Kept old (first * 2 ^ size) table → {new : List (List ℕ)} → Filled seats size t first last table new
+      → Filled seats size t first last old new
   filled_kept h f = record { shaped = f.shaped; kept = λ p l. f.kept p l ∙ h p l; built = f.built }
 
 -- rows behind those that stand
-pub built_more : {zeros ones : List ℕ} {size k last : ℕ} {table new : List (List ℕ)} → Filled zeros ones size size k last table new
-    → Built zeros ones size size 0 k table → Built zeros ones size size 0 last new
-built_more {zeros} {ones} {size} {k} {new = new} f b i j low high l = go (dec_lt i k)
+pub built_more : {seats : List Added} {size k last : ℕ} {table new : List (List ℕ)} → Filled seats size size k last table new
+    → Built seats size size 0 k table → Built seats size size 0 last new
+built_more {seats} {size} {k} {new = new} f b i j low high l = go (dec_lt i k)
   where
-    go : Dec (i < k) → cell new (i * 2 ^ size + j) ≡ get_or (row_of (adds zeros ones (i * size)) size) j 0
+    go : Dec (i < k) → cell new (i * 2 ^ size + j) ≡ get_or (row_of (adds seats (i * size)) size) j 0
     go (yes h) = f.kept (i * 2 ^ size + j) (omega (arith, place-before (2 ^ size) h)) ∙ b i j low h l
     go (no h) = f.built i j (omega arith) high l
 
 -- all rows
-pub rows_right : (zeros ones : List ℕ) {groups size last : ℕ} (table : List (List ℕ)) → Sized groups size → groups ≤ last
-    → Built zeros ones size size 0 last table → RowsRight zeros ones groups size table
+pub rows_right : (seats : List Added) {groups size last : ℕ} (table : List (List ℕ)) → Sized groups size → groups ≤ last
+    → Built seats size size 0 last table → RowsRight seats groups size table
 unfolding RowsRight
-rows_right zeros ones {size = size} table g all b k j h l =
+rows_right seats {size = size} table g all b k j h l =
     sym (cell_at table (k * 2 ^ size) j (omega (arith, (place g h).edge))) ∙ b k j (omega arith) (omega arith) l

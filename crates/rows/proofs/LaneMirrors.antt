@@ -8,6 +8,7 @@ use native.Mathlib.Omega.{arith}
 use lib.ListN.{get_or}
 use Rattle.rows.specs.Table.{capacity}
 use Rattle.rows.specs.Cells.{cell, put, Shaped}
+use Rattle.rows.specs.declared.seat.Entries.{Entries}
 use Rattle.rows.specs.Lanes.{Lanes, lane_doubled, lane_sum, Merged, Completed}
 use Rattle.rows.proofs.Cells.{put_same, put_other, put-shaped}
 use Rattle.rows.proofs.Filling.{place-before}
@@ -39,35 +40,35 @@ module _ {old : List (List ℕ)} {start m both : ℕ} {to : List (List ℕ)} {t 
       upper i h (no n) = put_other s.shaped (start + (m + m - 1 - t)) _ inside (start + (m + m - 1 - i)) (omega arith) ∙ s.upper i (omega arith)
 
 -- all lanes have their lower halves, and the first k their upper halves too
-pub record Mirroring (from : List (List ℕ)) (first entries m : ℕ) (zeros ones : List ℕ) (old to : List (List ℕ)) (k : ℕ) : Type 0 where
-  pub lower : Merged from first entries m zeros ones old to m
-  pub whole : (j i : ℕ) → j < k → i < m + m → cell to (first + j * entries + i) ≡ get_or (lane_doubled from first entries m zeros ones j) i 0
+pub record Mirroring (from : List (List ℕ)) (first entries m : ℕ) (added : List Entries) (old to : List (List ℕ)) (k : ℕ) : Type 0 where
+  pub lower : Merged from first entries m added old to m
+  pub whole : (j i : ℕ) → j < k → i < m + m → cell to (first + j * entries + i) ≡ get_or (lane_doubled from first entries m added j) i 0
 
-module _ {from : List (List ℕ)} {first entries m : ℕ} {zeros ones : List ℕ} {old to : List (List ℕ)} where
+module _ {from : List (List ℕ)} {first entries m : ℕ} {added : List Entries} {old to : List (List ℕ)} where
   -- no upper half yet
-  pub mirroring_none : Merged from first entries m zeros ones old to m → Mirroring from first entries m zeros ones to to 0
+  pub mirroring_none : Merged from first entries m added old to m → Mirroring from first entries m added to to 0
   mirroring_none h = record {
     lower = record { shaped = h.shaped; kept = λ p l. refl; stored = h.stored };
     whole = λ j i l. absurd (omega arith);
   }
 
   -- all of them
-  pub mirroring_all : {n k : ℕ} → Merged from first entries m zeros ones old to n → 4 ≤ k → {new : List (List ℕ)}
-      → Mirroring from first entries m zeros ones to new k → Merged from first entries m zeros ones old new (m + m)
+  pub mirroring_all : {n k : ℕ} → Merged from first entries m added old to n → 4 ≤ k → {new : List (List ℕ)}
+      → Mirroring from first entries m added to new k → Merged from first entries m added old new (m + m)
   mirroring_all h l s = record {
     shaped = s.lower.shaped;
     kept = λ p b. s.lower.kept p b ∙ h.kept p b;
     stored = λ k i b e. s.whole k i (omega arith) e;
   }
 
-  module _ (lanes : Lanes from first entries m zeros ones) {k : ℕ} (h : k < 4) (s : Mirroring from first entries m zeros ones old to k) where
+  module _ (lanes : Lanes from first entries m added) {k : ℕ} (h : k < 4) (s : Mirroring from first entries m added old to k) where
     -- an entry of the lower half is not above the sum
-    pub sum_fits : (i : ℕ) → i < m → cell to (first + k * entries + i) ≤ lane_sum from first entries m zeros ones k
+    pub sum_fits : (i : ℕ) → i < m → cell to (first + k * entries + i) ≤ lane_sum from first entries m added k
     sum_fits i l = omega (arith, s.lower.stored k i h l, lanes.mirrored k i h l)
 
     -- one lane more
-    pub mirroring_more : {new : List (List ℕ)} → Completed to (first + k * entries) m (lane_sum from first entries m zeros ones k) new m
-        → Mirroring from first entries m zeros ones old new (k + 1)
+    pub mirroring_more : {new : List (List ℕ)} → Completed to (first + k * entries) m (lane_sum from first entries m added k) new m
+        → Mirroring from first entries m added old new (k + 1)
     mirroring_more {new} c = record {
       lower = record {
         shaped = c.shaped;
@@ -84,7 +85,7 @@ module _ {from : List (List ℕ)} {first entries m : ℕ} {zeros ones : List ℕ
         beside j i b r (no n) (no q) = let less : j < k = omega arith in inl (omega (arith, place-before entries less))
 
         whole : (j i : ℕ) → j < k + 1 → i < m + m → Dec (j ≡ k) → Dec (i < m)
-            → cell new (first + j * entries + i) ≡ get_or (lane_doubled from first entries m zeros ones j) i 0
+            → cell new (first + j * entries + i) ≡ get_or (lane_doubled from first entries m added j) i 0
         whole j i l b (no n) d =
             let less : j < k = omega arith in
             c.same (first + j * entries + i) (inl (omega (arith, lanes.room, place-before entries less))) ∙ s.whole j i less b

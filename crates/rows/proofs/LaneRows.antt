@@ -12,34 +12,36 @@ use Rattle.laws.specs.Numbers.Each.{each_all}
 use Rattle.laws.specs.Numbers.SortedLists.{mem_get_d}
 use Rattle.laws.specs.Rows.SortedRows.{row_of, row-length, row_bound}
 use Rattle.laws.specs.Rows.MirroredRows.{both_of, row_mirrored}
-use Rattle.rows.specs.Adding.{Sized, Small, adds}
+use Rattle.rows.specs.declared.seat.Added.{Added}
+use Rattle.rows.specs.declared.seat.Entries.{Entries}
+use Rattle.rows.specs.Adding.{Sized, nothing, adds}
 use Rattle.rows.specs.Cells.{cell, Built, Filled}
-use Rattle.rows.specs.Lanes.{lane, Lanes, lane_doubled, lane_sum, Merged, FourAdd}
-use Rattle.rows.proofs.Places.{place, size_small}
+use Rattle.rows.specs.Lanes.{none, lane, Lanes, lane_doubled, lane_sum, Merged, FourAdd}
+use Rattle.rows.proofs.Places.{size_small}
 use Rattle.rows.proofs.Filling.{place_room}
 
 -- no group yet
-pub four_none : (zeros ones : List ℕ) (group size t : ℕ) (x y : List ℕ) → FourAdd zeros ones group size t x y 0
-four_none zeros ones group size t x y = record { first = λ k h. absurd (omega arith); second = λ k h. absurd (omega arith) }
+pub four_none : (seats : List Added) (group size t : ℕ) (added : List Entries) → FourAdd seats group size t added 0
+four_none seats group size t added = record { first = λ k h. absurd (omega arith); second = λ k h. absurd (omega arith) }
 
 -- one group more
-pub four_more : {zeros ones : List ℕ} {group size t : ℕ} {x y : List ℕ} {k : ℕ} → FourAdd zeros ones group size t x y k
-    → k < length x → k < length y → {a b : ℕ} → a ≡ get_or zeros ((group + k) * size + t) 0 * 256
-    → b ≡ get_or ones ((group + k) * size + t) 0 * 256 + 2 ^ t → FourAdd zeros ones group size t (set x k a) (set y k b) (k + 1)
-four_more {x = x} {y = y} {k = k} s u v {a} {b} ea eb = record {
-  first = below_more _ k (λ j l. get_or-set_other x k j a 0 (omega arith) ∙ s.first j l) (get_or-set_same x k a 0 u ∙ ea);
-  second = below_more _ k (λ j l. get_or-set_other y k j b 0 (omega arith) ∙ s.second j l) (get_or-set_same y k b 0 v ∙ eb);
+pub four_more : {seats : List Added} {group size t : ℕ} {added : List Entries} {k : ℕ} → FourAdd seats group size t added k → k < length added
+    → {own : Entries} → own.zero ≡ (get_or seats ((group + k) * size + t) nothing).zero * 256
+    → own.one ≡ (get_or seats ((group + k) * size + t) nothing).one * 256 + 2 ^ t → FourAdd seats group size t (set added k own) (k + 1)
+four_more {added = added} {k = k} s h {own} ez eo = record {
+  first = below_more _ k (λ j l. rw (get_or-set_other added k j own none (omega arith)) (s.first j l)) (rw (get_or-set_same added k own none h) ez);
+  second = below_more _ k (λ j l. rw (get_or-set_other added k j own none (omega arith)) (s.second j l)) (rw (get_or-set_same added k own none h) eo);
 }
 
-module _ {zeros ones : List ℕ} {group size t : ℕ} (few : t < size) (sized : Sized (group + 4) size) (low : Small zeros) (high : Small ones)
-    (from : List (List ℕ)) (built : Built zeros ones size t group (group + 4) from) {x y : List ℕ} (four : FourAdd zeros ones group size t x y 4) where
+module _ {seats : List Added} {group size t : ℕ} (few : t < size) (sized : Sized (group + 4) size) (from : List (List ℕ))
+    (built : Built seats size t group (group + 4) from) {added : List Entries} (four : FourAdd seats group size t added 4) where
   -- the lane of a group begins at the group's place
   start : (k : ℕ) → group * 2 ^ size + k * 2 ^ size ≡ (group + k) * 2 ^ size
   start k = sym (add-mul group k (2 ^ size))
 
   -- what the group's slots add
   abbrev adding : ℕ → ℕ → ℕ → ℕ
-  adding k = adds zeros ones ((group + k) * size)
+  adding k = adds seats ((group + k) * size)
 
   -- a group has 8 slots at most
   narrow : t < 8
@@ -47,8 +49,8 @@ module _ {zeros ones : List ℕ} {group size t : ℕ} (few : t < size) (sized : 
 
   -- which takes 20 bits
   adding_small : (k : ℕ) → k < 4 → (i b : ℕ) → i < size → adding k i b ≤ 1048575
-  adding_small k h i zero l = omega (arith, low ((group + k) * size + i) (omega (arith, (place sized {k = group + k} (omega arith)).seats)))
-  adding_small k h i (suc b) l = omega (arith, high ((group + k) * size + i) (omega (arith, (place sized {k = group + k} (omega arith)).seats)))
+  adding_small k h i zero l = omega (arith, (get_or seats ((group + k) * size + i) nothing).small)
+  adding_small k h i (suc b) l = omega (arith, (get_or seats ((group + k) * size + i) nothing).small)
 
   -- the entries of a lane are those of its group's row
   entry : (k i : ℕ) → k < 4 → i < 2 ^ t → cell from (group * 2 ^ size + k * 2 ^ size + i) ≡ get_or (row_of (adding k) t) i 0
@@ -61,7 +63,7 @@ module _ {zeros ones : List ℕ} {group size t : ℕ} (few : t < size) (sized : 
       (row_bound (adding k) t 1048575 (omega (arith, narrow)) (λ j b c. adding_small k h j b (omega arith)) _ (mem_get_d (row_of (adding k) t) i 0 (rw (row-length (adding k) t) l)))
 
   -- what both bits of a slot add
-  slot_small : (k : ℕ) → k < 4 → get_or x k 0 + get_or y k 0 ≤ 1048575 * 512 + 2 ^ 7
+  slot_small : (k : ℕ) → k < 4 → (get_or added k none).zero + (get_or added k none).one ≤ 1048575 * 512 + 2 ^ 7
   slot_small k h =
       let p : 2 ^ t ≤ 2 ^ 7 = pow_mono {j = 7} (omega (arith, narrow)) in
       omega (arith, four.first k h, four.second k h, adding_small k h t 0 few, adding_small k h t 1 few)
@@ -71,7 +73,7 @@ module _ {zeros ones : List ℕ} {group size t : ℕ} (few : t < size) (sized : 
   lane_row k h = sym (each_all _ 0 (row_of (adding k) t) (2 ^ t) (row-length (adding k) t) (λ j l. sym (entry k j h l)))
 
   -- the row of a lane with slot t
-  lane-doubled : (k : ℕ) → k < 4 → lane_doubled from (group * 2 ^ size) (2 ^ size) (2 ^ t) x y k ≡ row_of (adding k) (suc t)
+  lane-doubled : (k : ℕ) → k < 4 → lane_doubled from (group * 2 ^ size) (2 ^ size) (2 ^ t) added k ≡ row_of (adding k) (suc t)
   unfolding row_of
   lane-doubled k h = rw (four.first k h, four.second k h, lane_row k h)
 
@@ -81,8 +83,8 @@ module _ {zeros ones : List ℕ} {group size t : ℕ} (few : t < size) (sized : 
 
   -- and is its own mirror image
   mirrored : (k i : ℕ) → k < 4 → i < 2 ^ t
-      → get_or (lane_doubled from (group * 2 ^ size) (2 ^ size) (2 ^ t) x y k) i 0 + get_or (lane_doubled from (group * 2 ^ size) (2 ^ size) (2 ^ t) x y k) (2 ^ t + 2 ^ t - 1 - i) 0
-      ≡ lane_sum from (group * 2 ^ size) (2 ^ size) (2 ^ t) x y k
+      → get_or (lane_doubled from (group * 2 ^ size) (2 ^ size) (2 ^ t) added k) i 0 + get_or (lane_doubled from (group * 2 ^ size) (2 ^ size) (2 ^ t) added k) (2 ^ t + 2 ^ t - 1 - i) 0
+      ≡ lane_sum from (group * 2 ^ size) (2 ^ size) (2 ^ t) added k
   unfolding both_of
   mirrored k i h l =
       let some = pow_pos t in
@@ -92,7 +94,7 @@ module _ {zeros ones : List ℕ} {group size t : ℕ} (few : t < size) (sized : 
       ∙ omega (arith, own, entry k 0 h some, entry k (2 ^ t - 1) h (omega arith), four.first k h, four.second k h))
 
   -- the lanes are ready for slot t
-  pub lanes_ready : Lanes from (group * 2 ^ size) (2 ^ size) (2 ^ t) x y
+  pub lanes_ready : Lanes from (group * 2 ^ size) (2 ^ size) (2 ^ t) added
   lanes_ready = record {
     some = pow_pos t;
     room = rw twice (pow_mono few);
@@ -105,11 +107,11 @@ module _ {zeros ones : List ℕ} {group size t : ℕ} (few : t < size) (sized : 
   }
 
   -- the rows with slot t
-  pub rows_more : {old to : List (List ℕ)} → Merged from (group * 2 ^ size) (2 ^ size) (2 ^ t) x y old to (2 ^ t + 2 ^ t)
-      → Filled zeros ones size (suc t) group (group + 4) old to
+  pub rows_more : {old to : List (List ℕ)} → Merged from (group * 2 ^ size) (2 ^ size) (2 ^ t) added old to (2 ^ t + 2 ^ t)
+      → Filled seats size (suc t) group (group + 4) old to
   rows_more {to = to} g = record { shaped = g.shaped; kept = g.kept; built = built_here }
     where
-      built_here : Built zeros ones size (suc t) group (group + 4) to
+      built_here : Built seats size (suc t) group (group + 4) to
       built_here k j l b c =
           let k-is : group + (k - group) ≡ k = omega arith in
           let n : k - group < 4 = omega arith in

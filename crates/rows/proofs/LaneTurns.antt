@@ -1,28 +1,24 @@
 -- The loop that merges four lanes in step: a turn keeps its own lane, and every other one.
-use Prim.Native.Nat.{ℕ, zero, suc, ◌+◌, ◌*◌, ◌-◌, ◌^◌, ◌≤◌, ◌<◌, min}
+use Prim.Native.Nat.{ℕ, ◌+◌, ◌*◌, ◌-◌, ◌^◌, ◌≤◌, ◌<◌, min}
 use mathlib.Core.Path.{◌≡◌, refl, sym, ap, ap₂, ◌∙◌}
 use mathlib.Core.Logic.{◌≢◌}
 use mathlib.Core.Bool.{cond}
 use mathlib.Core.List.{List}
-use native.Mathlib.Decide.{ℕ_discrete}
+use native.Mathlib.Decide.{ℕ_discrete, dec_lt}
 use native.Mathlib.Omega.{arith}
 use lib.Dec.{ltb}
-use lib.ListN.{get_or}
+use lib.ListN.{length, get_or, set, length-set, replicate, get_or-replicate}
+use lib.Seq.{get_or-set_same, get_or-set_other}
+use borrow.Author.Count.{below_more}
 use Rattle.laws.specs.Numbers.Each.{each-length, each_at}
 use Rattle.laws.specs.Rows.SortedRows.{doubled}
 use Rattle.rows.specs.Table.{capacity}
 use Rattle.rows.specs.Cells.{cell, put, Shaped, Room, Kept}
-use Rattle.rows.specs.Lanes.{lane, Turned, Lanes, lane_doubled, Merged}
+use Rattle.rows.specs.declared.seat.Entries.{Entries}
+use Rattle.rows.specs.Lanes.{none, lane, Turned, Lanes, Merged}
 use Rattle.rows.proofs.Cells.{put_same, put_other, put-shaped, kept_more}
+use Rattle.rows.proofs.Filling.{place-before}
 use Rattle.rows.proofs.Doubling.{Front, front_turn, one_or_none}
-
--- what holds of the four lanes holds of each
-pub by_four : (P : ℕ → Type 0) → P 0 → P 1 → P 2 → P 3 → (k : ℕ) → k < 4 → P k
-by_four P a b c d zero h = a
-by_four P a b c d (suc zero) h = b
-by_four P a b c d (suc (suc zero)) h = c
-by_four P a b c d (suc (suc (suc zero))) h = d
-by_four P a b c d (suc (suc (suc (suc k)))) h = absurd (omega arith)
 
 -- after t turns a lane has the first t entries of its row with one slot more, of which a came with bit 0
 pub record Turning (from : List (List ℕ)) (start m x y : ℕ) (to : List (List ℕ)) (t a : ℕ) : Type 0 where
@@ -78,71 +74,83 @@ module _ {from : List (List ℕ)} {start m x y : ℕ} {to : List (List ℕ)} {t 
         stored = λ i c. put_other shaped p v inside (start + i) (apart i (omega (arith, s.met))) ∙ s.stored i c;
       })
 
--- the four lanes after t turns each
-pub record InStep (from : List (List ℕ)) (first entries m : ℕ) (zeros ones : List ℕ) (old to : List (List ℕ)) (t a b c d : ℕ) : Type 0 where
+-- the lanes below k after t + 1 turns each, the others after t
+pub record InStep (from : List (List ℕ)) (first entries m : ℕ) (added : List Entries) (old to : List (List ℕ)) (t k : ℕ) (taken : List ℕ) : Type 0 where
+  pub long : length taken ≡ 4
   pub shaped : Shaped to
   pub kept : Kept old first to
-  pub lane0 : Turning from (first + 0 * entries) m (get_or zeros 0 0) (get_or ones 0 0) to t a
-  pub lane1 : Turning from (first + 1 * entries) m (get_or zeros 1 0) (get_or ones 1 0) to t b
-  pub lane2 : Turning from (first + 2 * entries) m (get_or zeros 2 0) (get_or ones 2 0) to t c
-  pub lane3 : Turning from (first + 3 * entries) m (get_or zeros 3 0) (get_or ones 3 0) to t d
+  pub before : (j : ℕ) → j < k → Turning from (first + j * entries) m (get_or added j none).zero (get_or added j none).one to (t + 1) (get_or taken j 0)
+  pub behind : (j : ℕ) → k ≤ j → j < 4 → Turning from (first + j * entries) m (get_or added j none).zero (get_or added j none).one to t (get_or taken j 0)
 
-module _ {from : List (List ℕ)} {first entries m : ℕ} {zeros ones : List ℕ} (lanes : Lanes from first entries m zeros ones) where
-  module _ {t : ℕ} (l : t < m) where
-    -- what a turn asks
-    pub turn_ready : {k : ℕ} → k < 4 → (a : ℕ) → a ≤ t
-        → ((a ≤ t) × Room (first + k * entries) (t + 1))
-        × ((cell from (first + k * entries + a) + get_or zeros k 0 < 2 ^ 32) × (cell from (first + k * entries + (t - a)) + get_or ones k 0 < 2 ^ 32))
-    turn_ready {k} h a less =
-        let p = lanes.place k h in (
+-- no lane has had a turn
+pub step_none : (from : List (List ℕ)) (first entries m : ℕ) (added : List Entries) {to : List (List ℕ)} → Shaped to
+    → InStep from first entries m added to to 0 0 (replicate 4 0)
+step_none from first entries m added s = record {
+  long = refl;
+  shaped = s;
+  kept = λ p l. refl;
+  before = λ j l. absurd (omega arith);
+  behind = λ j l h. rw (get_or-replicate {A = ℕ} 4 j 0 0 h) (turning_none _ _ _ _ _ _);
+}
+
+module _ {from : List (List ℕ)} {first entries m : ℕ} {added : List Entries} (lanes : Lanes from first entries m added) {old to : List (List ℕ)} {t : ℕ} where
+  -- all lanes have had the turn: the next one begins
+  pub step_all : {taken : List ℕ} → InStep from first entries m added old to t 4 taken → InStep from first entries m added old to (t + 1) 0 taken
+  step_all s = record {
+    long = s.long;
+    shaped = s.shaped;
+    kept = s.kept;
+    before = λ j l. absurd (omega arith);
+    behind = λ j l h. s.before j h;
+  }
+
+  -- after m turns the lower halves are merged
+  pub steps_done : {taken : List ℕ} → InStep from first entries m added old to t 0 taken → m ≤ t → Merged from first entries m added old to m
+  steps_done s l = record {
+    shaped = s.shaped;
+    kept = s.kept;
+    stored = λ k i h e. (s.behind k (omega arith) h).stored i (omega arith);
+  }
+
+  module _ (l : t < m) {k : ℕ} (h : k < 4) {taken : List ℕ} (s : InStep from first entries m added old to t k taken) where
+    -- what the turn of lane k asks
+    pub turn_ready : ((get_or taken k 0 ≤ t) × Room (first + k * entries) (t + 1))
+        × ((cell from (first + k * entries + get_or taken k 0) + (get_or added k none).zero < 2 ^ 32)
+        × (cell from (first + k * entries + (t - get_or taken k 0)) + (get_or added k none).one < 2 ^ 32))
+    turn_ready =
+        let p = lanes.place k h in
+        let less = (s.behind k (omega arith) h).some in (
           (less, record { inside = p.inside; edge = omega (arith, p.edge, lanes.room) }),
-          (omega (arith, lanes.small k a h (omega arith)), omega (arith, lanes.small k (t - a) h (omega arith))),
+          (omega (arith, lanes.small k (get_or taken k 0) h (omega arith)), omega (arith, lanes.small k (t - get_or taken k 0) h (omega arith))),
         )
 
     -- the place that it stores at
-    inside : (k : ℕ) → k < 4 → first + k * entries + t < capacity
-    inside k h = let p = lanes.place k h in omega (arith, p.inside, p.edge, lanes.room)
+    inside : first + k * entries + t < capacity
+    inside = let p = lanes.place k h in omega (arith, p.inside, p.edge, lanes.room)
 
-    -- one turn of each lane
-    pub step_more : {old to to₁ to₂ to₃ to₄ : List (List ℕ)} {a b c d a₁ b₁ c₁ d₁ : ℕ} → InStep from first entries m zeros ones old to t a b c d
-        → Turned from (first + 0 * entries) t a (get_or zeros 0 0) (get_or ones 0 0) to to₁ a₁
-        → Turned from (first + 1 * entries) t b (get_or zeros 1 0) (get_or ones 1 0) to₁ to₂ b₁
-        → Turned from (first + 2 * entries) t c (get_or zeros 2 0) (get_or ones 2 0) to₂ to₃ c₁
-        → Turned from (first + 3 * entries) t d (get_or zeros 3 0) (get_or ones 3 0) to₃ to₄ d₁
-        → InStep from first entries m zeros ones old to₄ (t + 1) a₁ b₁ c₁ d₁
-    step_more {old} {to} {to₁} {to₂} {to₃} {to₄} s e₀ e₁ e₂ e₃ =
-        let room = lanes.room in
-        let p₀ = inside 0 (omega arith) in
-        let p₁ = inside 1 (omega arith) in
-        let p₂ = inside 2 (omega arith) in
-        let p₃ = inside 3 (omega arith) in
-        let shaped₁ : Shaped to₁ = rw e₀.0 (put-shaped s.shaped _ _ p₀) in
-        let shaped₂ : Shaped to₂ = rw e₁.0 (put-shaped shaped₁ _ _ p₁) in
-        let shaped₃ : Shaped to₃ = rw e₂.0 (put-shaped shaped₂ _ _ p₂) in
-        let after₀ = own_turn s.lane0 s.shaped l p₀ e₀ in
-        let after₁ = own_turn (past s.lane1 s.shaped _ _ p₀ (λ i c. omega arith) e₀.0) shaped₁ l p₁ e₁ in
-        let after₂ = own_turn (past (past s.lane2 s.shaped _ _ p₀ (λ i c. omega arith) e₀.0) shaped₁ _ _ p₁ (λ i c. omega arith) e₁.0) shaped₂ l p₂ e₂ in
-        let before₃ = past (past (past s.lane3 s.shaped _ _ p₀ (λ i c. omega arith) e₀.0) shaped₁ _ _ p₁ (λ i c. omega arith) e₁.0) shaped₂ _ _ p₂ (λ i c. omega arith) e₂.0 in
-        record {
-          shaped = rw e₃.0 (put-shaped shaped₃ _ _ p₃);
-          kept = kept_more old shaped₃ (kept_more old shaped₂ (kept_more old shaped₁ (kept_more old s.shaped s.kept _ _ (omega arith) p₀ e₀.0) _ _ (omega arith) p₁ e₁.0) _ _ (omega arith) p₂ e₂.0) _ _ (omega arith) p₃ e₃.0;
-          lane0 = past (past (past after₀ shaped₁ _ _ p₁ (λ i c. omega arith) e₁.0) shaped₂ _ _ p₂ (λ i c. omega arith) e₂.0) shaped₃ _ _ p₃ (λ i c. omega arith) e₃.0;
-          lane1 = past (past after₁ shaped₂ _ _ p₂ (λ i c. omega arith) e₂.0) shaped₃ _ _ p₃ (λ i c. omega arith) e₃.0;
-          lane2 = past after₂ shaped₃ _ _ p₃ (λ i c. omega arith) e₃.0;
-          lane3 = own_turn before₃ shaped₃ l p₃ e₃;
-        }
+    -- the place lies in no other lane
+    apart : (j : ℕ) → j ≢ k → (i : ℕ) → i < m → first + j * entries + i ≢ first + k * entries + t
+    apart j n i c e = go (dec_lt j k) lanes.room
+      where
+        go : Dec (j < k) → m + m ≤ entries → ⊥
+        go (yes b) r = omega (arith, place-before entries b)
+        go (no b) r = let less : k < j = omega arith in omega (arith, place-before entries less)
 
-  -- after m turns the lower halves are merged
-  pub step_all : {old to : List (List ℕ)} {t a b c d : ℕ} → InStep from first entries m zeros ones old to t a b c d → m ≤ t → Merged from first entries m zeros ones old to m
-  step_all {to = to} s l = record {
-    shaped = s.shaped;
-    kept = s.kept;
-    stored = λ k i h e.
-        by_four (λ (n : ℕ). cell to (first + n * entries + i) ≡ get_or (lane_doubled from first entries m zeros ones n) i 0)
-        (s.lane0.stored i (omega arith))
-        (s.lane1.stored i (omega arith))
-        (s.lane2.stored i (omega arith))
-        (s.lane3.stored i (omega arith))
-        k
-        h;
-  }
+    -- a turn of lane k
+    pub step_more : {new : List (List ℕ)} {a : ℕ}
+        → Turned from (first + k * entries) t (get_or taken k 0) (get_or added k none).zero (get_or added k none).one to new a
+        → InStep from first entries m added old new t (k + 1) (set taken k a)
+    step_more {new} {a} g = record {
+      long = length-set taken k a ∙ s.long;
+      shaped = rw g.0 (put-shaped s.shaped _ _ inside);
+      kept = kept_more old s.shaped s.kept _ _ (omega arith) inside g.0;
+      before = below_more _ k (λ j b. other j (omega arith) (s.before j b)) (rw (get_or-set_same taken k a 0 (omega (arith, s.long))) own);
+      behind = λ j b c. other j (omega arith) (s.behind j (omega arith) c);
+    }
+      where
+        own : Turning from (first + k * entries) m (get_or added k none).zero (get_or added k none).one new (t + 1) a
+        own = own_turn (s.behind k (omega arith) h) s.shaped l inside g
+
+        other : (j : ℕ) → j ≢ k → {n : ℕ} → Turning from (first + j * entries) m (get_or added j none).zero (get_or added j none).one to n (get_or taken j 0)
+            → Turning from (first + j * entries) m (get_or added j none).zero (get_or added j none).one new n (get_or (set taken k a) j 0)
+        other j n before = rw (get_or-set_other taken k j a 0 n) (past before s.shaped _ _ inside (apart j n) g.0)

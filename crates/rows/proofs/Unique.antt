@@ -13,7 +13,7 @@ use Rattle.rows.proofs.rows.Reads as rows
 abbrev pub SameRows : ℕ → ℕ → List (List ℕ) → List (List ℕ) → Type 0
 SameRows groups size r s = (k j : ℕ) → k < groups → j < 2 ^ size → entry_at r size k j ≡ entry_at s size k j
 
--- the groups and their size are the third and the fourth argument
-pub rows_unique : Agreed (λ κs a r s. SameRows a.1.1.0 a.1.1.1.0 r s) rows.Learnt
+-- the groups and their size are the second and the third argument
+pub rows_unique : Agreed (λ κs a r s. SameRows a.1.0 a.1.1.0 r s) rows.Learnt
 unfolding RowsRight
 rows_unique κs a r s v w p q k j h l = one_answer (p k j h l) (q k j h l)

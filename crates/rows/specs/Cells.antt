@@ -3,6 +3,7 @@ use Rattle.std.specs.Prelude.{ℕ, ◌+◌, ◌*◌, ◌/◌, ◌%◌, ◌^◌, 
 use Rattle.laws.specs.Rows.SortedRows.{row_of}
 use Rattle.rows.specs.Table.{rows_in_all, capacity}
 use Rattle.rows.specs.Adding.{adds}
+use Rattle.rows.specs.declared.seat.Added.{Added}
 
 -- what stands at place p
 unfoldable pub cell : List (List ℕ) → ℕ → ℕ
@@ -38,12 +39,12 @@ abbrev pub Kept : List (List ℕ) → ℕ → List (List ℕ) → Type 0
 Kept old start new = (p : ℕ) → p < start → cell new p ≡ cell old p
 
 -- the places of the groups from `first` to before `last` begin with the rows of their first t slots
-abbrev pub Built : List ℕ → List ℕ → ℕ → ℕ → ℕ → ℕ → List (List ℕ) → Type 0
-Built zeros ones size t first last table =
-    (k j : ℕ) → first ≤ k → k < last → j < 2 ^ t → cell table (k * 2 ^ size + j) ≡ get_or (row_of (adds zeros ones (k * size)) t) j 0
+abbrev pub Built : List Added → ℕ → ℕ → ℕ → ℕ → List (List ℕ) → Type 0
+Built seats size t first last table =
+    (k j : ℕ) → first ≤ k → k < last → j < 2 ^ t → cell table (k * 2 ^ size + j) ≡ get_or (row_of (adds seats (k * size)) t) j 0
 
 -- those rows were stored, and all before them is as it was
-pub record Filled (zeros ones : List ℕ) (size t first last : ℕ) (old new : List (List ℕ)) : Type 0 where
+pub record Filled (seats : List Added) (size t first last : ℕ) (old new : List (List ℕ)) : Type 0 where
   pub shaped : Shaped new
   pub kept : Kept old (first * 2 ^ size) new
-  pub built : Built zeros ones size t first last new
+  pub built : Built seats size t first last new

@@ -2,7 +2,14 @@
 use Rattle.std.specs.Prelude.{ℕ, ◌+◌, ◌-◌, ◌*◌, ◌^◌, ◌≤◌, ◌<◌, min, ◌≡◌, true, cond, ◌⊎◌, List, map, ltb, get_or}
 use Rattle.rules.specs.Below.{list_below}
 use Rattle.laws.specs.Rows.SortedRows.{doubled}
+use Rattle.rows.specs.Adding.{nothing}
 use Rattle.rows.specs.Cells.{cell, put, Shaped, Room, Kept}
+use Rattle.rows.specs.declared.seat.Added.{Added}
+use Rattle.rows.specs.declared.seat.Entries.{Entries}
+
+-- what stands past the lanes
+abbrev pub none : Entries
+none = record { zero = 0; one = 0 }
 
 -- the m entries from `start` on
 abbrev pub lane : List (List ℕ) → ℕ → ℕ → List ℕ
@@ -15,30 +22,30 @@ Turned from start t a x y old new r =
     × (r ≡ a + cond (ltb (cell from (start + a) + x) (cell from (start + (t - a)) + y)) 1 0)
 
 -- the row of lane k with one slot more, which adds `zero` or `one`
-abbrev pub lane_doubled : List (List ℕ) → ℕ → ℕ → ℕ → List ℕ → List ℕ → ℕ → List ℕ
-lane_doubled from first entries m zeros ones k = doubled (get_or zeros k 0) (get_or ones k 0) (lane from (first + k * entries) m)
+abbrev pub lane_doubled : List (List ℕ) → ℕ → ℕ → ℕ → List Entries → ℕ → List ℕ
+lane_doubled from first entries m added k = doubled (get_or added k none).zero (get_or added k none).one (lane from (first + k * entries) m)
 
 -- the sum of an entry and its mirror image in that row
-abbrev pub lane_sum : List (List ℕ) → ℕ → ℕ → ℕ → List ℕ → List ℕ → ℕ → ℕ
-lane_sum from first entries m zeros ones k =
-    cell from (first + k * entries + 0) + cell from (first + k * entries + (m - 1)) + (get_or zeros k 0 + get_or ones k 0)
+abbrev pub lane_sum : List (List ℕ) → ℕ → ℕ → ℕ → List Entries → ℕ → ℕ
+lane_sum from first entries m added k =
+    cell from (first + k * entries + 0) + cell from (first + k * entries + (m - 1)) + ((get_or added k none).zero + (get_or added k none).one)
 
 -- four lanes with a row of m entries each: there is room for one slot more, sums fit, and the row with it is its own mirror image
-pub record Lanes (from : List (List ℕ)) (first entries m : ℕ) (zeros ones : List ℕ) : Type 0 where
+pub record Lanes (from : List (List ℕ)) (first entries m : ℕ) (added : List Entries) : Type 0 where
   pub some : 0 < m
   pub room : m + m ≤ entries
   pub place : (k : ℕ) → k < 4 → Room (first + k * entries) entries
-  pub small : (k i : ℕ) → k < 4 → i < m → cell from (first + k * entries + i) + (get_or zeros k 0 + get_or ones k 0) < 2 ^ 32
+  pub small : (k i : ℕ) → k < 4 → i < m → cell from (first + k * entries + i) + ((get_or added k none).zero + (get_or added k none).one) < 2 ^ 32
   pub mirrored : (k i : ℕ) → k < 4 → i < m
-      → get_or (lane_doubled from first entries m zeros ones k) i 0 + get_or (lane_doubled from first entries m zeros ones k) (m + m - 1 - i) 0
-      ≡ lane_sum from first entries m zeros ones k
-  pub fits : (k : ℕ) → k < 4 → lane_sum from first entries m zeros ones k < 2 ^ 32
+      → get_or (lane_doubled from first entries m added k) i 0 + get_or (lane_doubled from first entries m added k) (m + m - 1 - i) 0
+      ≡ lane_sum from first entries m added k
+  pub fits : (k : ℕ) → k < 4 → lane_sum from first entries m added k < 2 ^ 32
 
 -- the first n entries of those rows stand in the lanes of `new`, and all before the lanes is as it was
-pub record Merged (from : List (List ℕ)) (first entries m : ℕ) (zeros ones : List ℕ) (old new : List (List ℕ)) (n : ℕ) : Type 0 where
+pub record Merged (from : List (List ℕ)) (first entries m : ℕ) (added : List Entries) (old new : List (List ℕ)) (n : ℕ) : Type 0 where
   pub shaped : Shaped new
   pub kept : Kept old first new
-  pub stored : (k i : ℕ) → k < 4 → i < n → cell new (first + k * entries + i) ≡ get_or (lane_doubled from first entries m zeros ones k) i 0
+  pub stored : (k i : ℕ) → k < 4 → i < n → cell new (first + k * entries + i) ≡ get_or (lane_doubled from first entries m added k) i 0
 
 -- of the 2 m entries from `start` on the last t are what is left of the first t to a sum; all else is as it was
 pub record Completed (old : List (List ℕ)) (start m both : ℕ) (new : List (List ℕ)) (t : ℕ) : Type 0 where
@@ -47,6 +54,6 @@ pub record Completed (old : List (List ℕ)) (start m both : ℕ) (new : List (L
   pub same : (p : ℕ) → (p < start + (m + m - t)) ⊎ (start + (m + m) ≤ p) → cell new p ≡ cell old p
 
 -- what bit 0 and bit 1 of slot t add to an entry, for the first n of the four groups from `group` on
-pub record FourAdd (zeros ones : List ℕ) (group size t : ℕ) (x y : List ℕ) (n : ℕ) : Type 0 where
-  pub first : (k : ℕ) → k < n → get_or x k 0 ≡ get_or zeros ((group + k) * size + t) 0 * 256
-  pub second : (k : ℕ) → k < n → get_or y k 0 ≡ get_or ones ((group + k) * size + t) 0 * 256 + 2 ^ t
+pub record FourAdd (seats : List Added) (group size t : ℕ) (added : List Entries) (n : ℕ) : Type 0 where
+  pub first : (k : ℕ) → k < n → (get_or added k none).zero ≡ (get_or seats ((group + k) * size + t) nothing).zero * 256
+  pub second : (k : ℕ) → k < n → (get_or added k none).one ≡ (get_or seats ((group + k) * size + t) nothing).one * 256 + 2 ^ t

@@ -1,3 +1,4 @@
+pub mod Bound
 pub mod Table
 pub mod Adding
 pub mod Cells

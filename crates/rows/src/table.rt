@@ -1,7 +1,7 @@
 // The table of rows of 256 entries. Places are counted through all of them, and what begins at a place lies in one row.
-ghost use Rattle.std.specs.Prelude.{◌≡◌, ◌+◌, ◌%◌, ◌<◌};
+ghost use Rattle.std.specs.Prelude.{◌≡◌, ◌+◌, ◌%◌, ◌<◌, length};
 ghost use Rattle.rows.specs.Table.{capacity};
-ghost use Rattle.rows.specs.Cells.{cell, put};
+ghost use Rattle.rows.specs.Cells.{cell, put, Shaped, Room, Placed};
 
 use crate::Table;
 
@@ -10,9 +10,7 @@ pub(crate) fn entry(table: &Table, start: usize, i: usize) -> u32
     requires { (start < capacity) × (start % 256 + i < 256) }
     ensures { result ≡ cell table.now (start + i) }
 {
-    let row = start / 256;
-    let at = start % 256;
-    table[row][at + i]
+    table[start / 256][start % 256 + i]
 }
 
 // Another entry there.
@@ -20,7 +18,15 @@ pub(crate) fn store(table: &mut Table, start: usize, i: usize, value: u32)
     requires { (start < capacity) × (start % 256 + i < 256) }
     ensures { table.new ≡ put table.old (start + i) value }
 {
-    let row = start / 256;
-    let at = start % 256;
-    table[row][at + i] = value;
+    table[start / 256][start % 256 + i] = value;
+}
+
+// A whole row from there on.
+pub(crate) fn store_row(table: &mut Table, start: usize, row: &[u32])
+    requires { Shaped table.old × Room start (length row.now) }
+    ensures { Placed table.old start row.now table.new }
+{
+    for (i, value) in row.iter().enumerate() {
+        store(table, start, i, *value);
+    }
 }

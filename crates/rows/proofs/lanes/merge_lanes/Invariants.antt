@@ -1,10 +1,10 @@
--- `rows::lanes::merge_lanes` meets its contract: before each turn every lane has the first t entries of its row.
-use Prim.Native.Nat.{◌-◌}
+-- `rows::lanes::merge_lanes` meets its contract: before each turn every lane has the first t entries of its row, and the lanes
+-- before k one more.
 use Rattle.rows.proofs.LaneTurns.{InStep}
 use Rattle.rows.proofs.lanes.merge_lanes.Given as goal
 
 abbrev pub invariant-loop-t : goal.invariant-loop-t
-invariant-loop-t l = InStep l.from l.first l.entries l.m l.zero l.one l.initial.to l.to l.t l.a l.b l.c l.d
+invariant-loop-t l = InStep l.from l.first l.entries l.m l.added l.fn.to l.to l.t 0 l.taken
 
-abbrev pub decreases-loop-t : goal.decreases-loop-t
-decreases-loop-t l = l.m - l.t
+abbrev pub invariant-loop-k : goal.invariant-loop-k
+invariant-loop-k l = InStep l.from l.first l.entries l.m l.added l.fn.to l.to l.t l.k l.a-items
