@@ -3,6 +3,7 @@ ghost use Rattle.std.specs.Prelude.{◌≤◌, length};
 
 use crate::rule;
 
+// A word, its codeword, and the codeword's distance from the levels.
 #[derive(Clone, Copy)]
 pub(crate) struct Least {
     pub(crate) d: u64,
@@ -10,34 +11,32 @@ pub(crate) struct Least {
     pub(crate) distance: u32,
 }
 
-// The nearer of the best so far and d; among equals the best so far, whose word is smaller. A word with a one at a frozen
-// index is not permitted.
-fn tried(best: Least, levels: &[i32], frozen: u64, d: u64) -> Least
-    requires { length levels.now ≤ 16 }
-{
-    if d & frozen != 0 {
-        return best;
+impl Least {
+    fn at(levels: &[i32], d: u64) -> Least
+        requires { length levels.now ≤ 16 }
+    {
+        let x = rule::codeword(levels.len(), d);
+        Least {
+            d,
+            x,
+            distance: rule::distance(levels, x),
+        }
     }
-    let x = rule::codeword(levels.len(), d);
-    let distance = rule::distance(levels, x);
-    if distance < best.distance {
-        return Least { d, x, distance };
-    }
-    best
 }
 
-// The permitted word of least distance; among equals the smallest. The listing starts from the word 0, which every mask permits.
+// The permitted word of least distance; among equals the smallest. A word with a one at a frozen index is not permitted; the
+// listing starts from the word 0, which every mask permits.
 pub(crate) fn least_word(levels: &[i32], frozen: u64) -> Least
     requires { length levels.now ≤ 16 }
 {
-    let words: u64 = 1 << levels.len();
-    let mut best = Least {
-        d: 0,
-        x: 0,
-        distance: rule::distance(levels, 0),
-    };
-    for d in 1..words {
-        best = tried(best, levels, frozen, d);
+    let mut best = Least::at(levels, 0);
+    for d in 1..1 << levels.len() {
+        if d & frozen == 0 {
+            let tried = Least::at(levels, d);
+            if tried.distance < best.distance {
+                best = tried;
+            }
+        }
     }
     best
 }

@@ -1,5 +1,5 @@
 // Blocks of levels and sampled masks, from a small generator: the same numbers in every run.
-ghost use Rattle.std.specs.Prelude.{◌≡◌, ◌<◌, length};
+ghost use Rattle.std.specs.Prelude.{◌<◌};
 
 use level::LIMIT;
 
@@ -37,13 +37,12 @@ fn drawn(number: u64, state: u64) -> i32 {
 // A block of levels by a number.
 pub(crate) fn block(number: u64) -> [i32; 16]
     requires { number < 65536 }
-    ensures { 16 ≡ length result }
 {
-    let mut levels = [0i32; 16];
+    let mut levels = [0; 16];
     let mut state = number;
-    for i in 0..16 {
+    for level in &mut levels {
         state = next(state);
-        levels[i] = drawn(number, state);
+        *level = drawn(number, state);
     }
     levels
 }
@@ -53,7 +52,7 @@ pub(crate) fn mask(number: u64) -> u64
     requires { number < 65536 }
 {
     let mask = next(next(number)) / 4096 % 65536;
-    if u64::count_ones(mask) < 6 {
+    if mask.count_ones() < 6 {
         return 65535 - mask;
     }
     mask

@@ -24,7 +24,7 @@ fn term(d: u64, i: usize, j: usize) -> u64
 fn code_bit(slots: usize, d: u64, i: usize) -> u64
     requires { slots ≤ 16 }
 {
-    let mut sum: u64 = 0;
+    let mut sum = 0;
     for j in 0..slots {
         sum += term(d, i, j);
     }
@@ -35,9 +35,9 @@ fn code_bit(slots: usize, d: u64, i: usize) -> u64
 pub(crate) fn codeword(slots: usize, d: u64) -> u64
     requires { slots ≤ 16 }
 {
-    let mut x: u64 = 0;
+    let mut x = 0;
     for i in 0..slots {
-        x = x | (code_bit(slots, d, i) << i);
+        x |= code_bit(slots, d, i) << i;
     }
     x
 }
@@ -54,44 +54,33 @@ fn part(level: i32, ideal: i32) -> u32
     requires { nat_abs ideal ≤ 256 }
     ensures { result ≤ (limit + 256) * (limit + 256) }
 {
-    if level < -LIMIT {
+    if level.unsigned_abs() > LIMIT.unsigned_abs() {
         return 0;
     }
-    if LIMIT < level {
-        return 0;
-    }
-    let gap = level - ideal;
-    (gap * gap) as u32
+    let gap = level.abs_diff(ideal);
+    gap * gap
 }
 
 // The sum over slots of (level - ideal)².
 pub(crate) fn distance(levels: &[i32], x: u64) -> u32
     requires { length levels.now ≤ 16 }
 {
-    let mut sum: u32 = 0;
-    for i in 0..levels.len() {
-        sum += part(levels[i], ideal(bit(x, i)));
+    let mut sum = 0;
+    for (i, level) in levels.iter().enumerate() {
+        sum += part(*level, ideal(bit(x, i)));
     }
     sum
-}
-
-// A message of the indices above i, with index i put in at the bottom where it is unfrozen.
-fn with_index(message: u64, frozen: u64, d: u64, i: usize) -> u64
-    requires { i < 16 }
-{
-    if bit(frozen, i) == 0 {
-        return (message << 1) | bit(d, i);
-    }
-    message
 }
 
 // The message of an information word: bit 0 is at the smallest unfrozen index, bit 1 at the next, and so on.
 pub(crate) fn message(slots: usize, frozen: u64, d: u64) -> u64
     requires { slots ≤ 16 }
 {
-    let mut message: u64 = 0;
-    for passed in 0..slots {
-        message = with_index(message, frozen, d, slots - 1 - passed);
+    let mut message = 0;
+    for i in (0..slots).rev() {
+        if bit(frozen, i) == 0 {
+            message = message << 1 | bit(d, i);
+        }
     }
     message
 }
