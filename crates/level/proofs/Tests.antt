@@ -1,27 +1,17 @@
 -- What the tests of a level say, of its range and of its sign, and how large the magnitude of a 32-bit number is.
-use Prim.Native.Nat.{zero, suc, ◌-◌, ◌^◌, ◌≤◌, ◌<◌}
+use Prim.Native.Nat.{zero, suc, ◌^◌, ◌≤◌, ◌<◌}
 use mathlib.Core.Path.{◌≡◌, refl, sym, ap, ◌∙◌}
-use mathlib.Core.Bool.{Bool, true, false, not, ◌&&◌, cond}
+use mathlib.Core.Bool.{Bool, not, cond}
 use native.Mathlib.Omega.{arith}
-use lib.Dec.{leb}
 use lib.IntN.{ℤ, pos, negsuc, nat_abs}
-use lib.Signed.{le_z, lt_z, mag}
+use lib.Signed.{lt_z, mag}
 use mir.Syntax.{w32}
 use mir.Val.{SFits, to_z, of_z}
 use mir.ValLaws.{to_z-of_z}
 use borrow.Author.Rules.{sfits_of}
-use borrow.Author.Tests.{leb-true, leb-false, le-leb, lt-leb, lt-ltb, le-ltb}
-use Rattle.rules.specs.Level.{limit, in_range}
+use borrow.Author.Tests.{lt-ltb, le-ltb}
+use Rattle.rules.specs.Level.{in_range}
 use Rattle.laws.specs.Distance.Excess.{excess}
-
--- the range as two signed tests
-pub range_tests : (z : ℤ) → in_range z ≡ (le_z (negsuc (limit - 1)) z && le_z z (pos limit))
-range_tests (pos m) = refl
-range_tests (negsuc m) = go (leb m (limit - 1)) refl
-  where
-    go : (t : Bool) → leb m (limit - 1) ≡ t → leb (suc m) limit ≡ (t && true)
-    go true e = le-leb (suc m) limit (omega (arith, leb-true m (limit - 1) e))
-    go false e = lt-leb (suc m) limit (omega (arith, leb-false m (limit - 1) e))
 
 -- what a test of a level that was read says of the level
 pub tested : (z : ℤ) {r t : Bool} → mag z < 2 ^ 31 → r ≡ in_range (to_z w32 (of_z w32 z)) → not r ≡ t → not (in_range z) ≡ t

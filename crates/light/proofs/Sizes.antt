@@ -1,12 +1,11 @@
--- The sizes of a block: what the test of an assembler says of its n, of its slots and of those that are filled.
+-- The sizes of a block: what the test of an assembler says of its n and of the slots counted for it.
 use Prim.Native.Nat.{ℕ, ◌^◌, ◌≤◌}
 use mathlib.Core.Path.{◌≡◌}
 use mathlib.Core.Bool.{false}
-use borrow.Author.Tests.{ltb-false}
 use lib.Dec.{ltb}
 use lib.Pow.{pow_mono}
 use Rattle.rules.specs.Refusals.{is_wrong_size}
-use Rattle.laws.specs.Answers.Sizes.{or_left, or_right, size-le}
+use Rattle.laws.specs.Answers.Sizes.{or_left, size-le}
 use Rattle.word.specs.Words.{size_of}
 use Rattle.word.specs.Sizes.{slots_right}
 use Rattle.light.specs.Values.{room}
@@ -20,7 +19,3 @@ module _ (n filled : ℕ) (right : is_wrong n filled ≡ false) where
   -- they have room
   pub in_room : 2 ^ n ≤ room
   in_room = pow_mono (size-le n (or_left (is_wrong_size n) (ltb (2 ^ n) filled) right))
-
-  -- and no more of them are filled
-  pub filled_le : filled ≤ 2 ^ n
-  filled_le = ltb-false (2 ^ n) filled (or_right (is_wrong_size n) (ltb (2 ^ n) filled) right)

@@ -1,11 +1,11 @@
 -- What taking a reading answers, by the levels of its samples.
 use Prim.Native.Nat.{◌+◌, ◌^◌, ◌≤◌, ◌<◌}
 use mathlib.Core.Path.{◌≡◌, refl, ap, ◌∙◌}
-use mathlib.Core.Bool.{true, false}
+use mathlib.Core.Bool.{false}
 use mathlib.Core.List.{[], ◌∷◌}
 use mathlib.Core.Option.{none, some}
 use native.Mathlib.Numerals.{add-one}
-use borrow.Author.Tests.{lt-ltb, le-ltb}
+use borrow.Author.Tests.{le-ltb}
 use lib.IntN.{ℤ, pos}
 use lib.Ieee.{Float}
 use lib.ListN.{set}
@@ -17,7 +17,7 @@ use Rattle.rules.specs.Sample.{level_of}
 use Rattle.rules.specs.Assembling.{Assembler, Reading, single, pair, erased, first_without, fill_slot, fill_slots, take_reading, slots_needed}
 use Rattle.rules.specs.Refusals.{Answer, refused, done, answer, not_finite}
 use Rattle.refusal.specs.Number.{refusal_of}
-use Rattle.refusal.specs.declared.Refusal.TheVariants.{Size, NoRoom, NotFinite}
+use Rattle.refusal.specs.declared.Refusal.TheVariants.{NotFinite}
 use Rattle.light.specs.Values.{assembler_of}
 use Rattle.light.specs.Steps.{is_wrong, Fills, taken_answer}
 use Rattle.light.specs.declared.Assembler as code
@@ -62,15 +62,7 @@ module _ (a : Assembler) where
   unfolding first_without fill_slots
   erased_done = refl
 
-  -- ---- the order of refusals
-
-  pub size_refused : (reading : Reading) → is_wrong a.n a.filled ≡ true → refused (refusal_of Size) ≡ taken_answer a reading
-  size_refused reading w = rw w
-
-  pub room_refused : (reading : Reading) → is_wrong a.n a.filled ≡ false → 2 ^ a.n < a.filled + slots_needed reading
-      → refused (refusal_of NoRoom) ≡ taken_answer a reading
-  room_refused reading w h = rw (w, lt-ltb _ _ h)
-
+  -- it is what taking the reading answers
   pub room_left : (reading : Reading) → is_wrong a.n a.filled ≡ false → a.filled + slots_needed reading ≤ 2 ^ a.n
       → read a reading ≡ taken_answer a reading
   room_left reading w h = rw (w, le-ltb _ _ h)

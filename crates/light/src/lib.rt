@@ -1,14 +1,17 @@
 // From light to levels: readings, and the assembler of one block.
 #![tactic(auto)]
 
-ghost use Rattle.std.specs.Prelude.{◌≡◌, ◌<◌};
+ghost use Rattle.std.specs.Prelude.{◌≡◌, ◌<◌, Some};
 ghost use Rattle.rules.specs.Assembling as rules;
 ghost use Rattle.rules.specs.Answers.{take_answer, take_left};
+ghost use Rattle.refusal.specs.Printed.{printed};
 ghost use Rattle.refusal.specs.Results.{answer_by};
 ghost use Rattle.light.specs.Values.{reading_of, assembler_of, room, Hands, Starts, Gives};
 ghost use Rattle.light.specs.Steps.{is_wrong, Fills, LevelAt, taken_answer};
 
 use refusal::Refusal;
+use std::error::Error;
+use std::fmt;
 
 // N at the largest n: how many levels an assembler has room for.
 const ROOM: usize = word::SLOTS;
@@ -42,6 +45,17 @@ pub struct Refused {
     pub why: Refusal,
     pub assembler: Assembler,
 }
+
+// A call that was refused is printed by its refusal.
+impl fmt::Display for Refused {
+    ghost output = { λ refused. Some (printed refused.why) };
+
+    fn fmt<W: fmt::Write>(&self, f: &mut fmt::Formatter<W>) -> fmt::Result {
+        write!(f, "{}", self.why)
+    }
+}
+
+impl Error for Refused {}
 
 // The level of a sample that stands at this place in its reading; refusal 11 names the place.
 fn level_at(sample: f32, place: usize) -> Result<i32, Refusal>

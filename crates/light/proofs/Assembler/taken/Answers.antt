@@ -12,7 +12,7 @@ use Rattle.light.specs.Steps.{is_wrong, taken_answer}
 use Rattle.light.specs.declared.Reading.{Reading}
 use Rattle.light.specs.declared.Reading.TheVariants.{Single, Pair, Erased}
 use Rattle.light.proofs.Sizes.{slots_are, in_room}
-use Rattle.light.proofs.Taking.{slot_filled, read, single_done, single_refused, first_refused, second_refused, pair_done, erased_done, size_refused, room_refused, room_left}
+use Rattle.light.proofs.Taking.{slot_filled, read, single_done, single_refused, first_refused, second_refused, pair_done, erased_done, room_left}
 use Rattle.light.proofs.Assembler.taken.Goals as goal
 use Rattle.light.proofs.Assembler.taken.Goals.{Else-self-slots_needed}
 
@@ -38,16 +38,6 @@ answered : (c : Else-self-slots_needed) (reading : Reading) (r : Answer rules.As
 answered c reading r e t =
     subst (λ (x : Reading). r ≡ read (assembler_of c.args.self) (reading_of x)) (sym e) t
     ∙ room_left (assembler_of c.args.self) (reading_of c.args.reading) (not_wrong c) (left c)
-
-pub returns-then-is_wrong : goal.returns-then-is_wrong
-returns-then-is_wrong c = size_refused (assembler_of c.args.self) (reading_of c.args.reading) (sym c.is_wrong.ensures ∙ c.if-is_wrong.true)
-
-pub returns-then-self-slots_needed : goal.returns-then-self-slots_needed
-returns-then-self-slots_needed c =
-    let a = c.args.self in
-    let e = sym c.is_wrong.ensures ∙ c.if-is_wrong.false in
-    room_refused (assembler_of a) (reading_of c.args.reading) e
-    (omega (arith, c.slots_needed.ensures, slots_are a.n a.filled e c.slots.result c.slots.ensures, c.if-self-slots_needed.true))
 
 pub returns-in_err-level-in-Single : goal.returns-in_err-level-in-Single
 returns-in_err-level-in-Single c =
