@@ -1,8 +1,7 @@
 -- No second answer: of each public function, two results that meet its contract are equal.
 -- The contracts are those of src/ themselves, as the check reads them: a weaker one has no such theorem.
 use Rattle.laws.specs.Answers.OneAnswer.{OneResult, one_answer}
-use Rattle.word.specs.Options.{option_injective}
-use Rattle.level.specs.Unique.{measured_injective, slot_injective}
+use Rattle.level.specs.Unique.{found_injective, measured_injective, slot_injective}
 use Rattle.level.proofs.ideal.Reads as ideal
 use Rattle.level.proofs.magnitude.Reads as magnitude
 use Rattle.level.proofs.in_range.Reads as in_range
@@ -21,7 +20,7 @@ pub in_range_unique : OneResult in_range.Learnt
 in_range_unique κs a r s v w p q = one_answer p q
 
 pub first_out_of_range_unique : OneResult first_out_of_range.Learnt
-first_out_of_range_unique κs a r s v w p q = option_injective r s (one_answer p.0 q.0)
+first_out_of_range_unique κs a r s v w p q = found_injective r s (one_answer p.0 q.0)
 
 pub clipped_unique : OneResult clipped.Learnt
 clipped_unique κs a r s v w p q = one_answer p q

@@ -1,10 +1,15 @@
 -- Each reading of this crate determines what is read.
-use Rattle.std.specs.Prelude.{ℕ, ◌≡◌, Result, Ok, Err, get_or}
+use Rattle.std.specs.Prelude.{ℕ, ◌≡◌, Option, Result, Ok, Err, get_or}
 use Rattle.std.proofs.Common.{ap}
 use Rattle.rules.specs.Refusals.{Answer, refused, done}
+use Rattle.word.specs.Options.{option_of, option_injective}
 use Rattle.level.specs.Measuring.{measured_of}
 use Rattle.level.specs.declared.OutOfRange.{OutOfRange}
 use Rattle.level.specs.declared.Slot.{Slot}
+
+-- what a search found
+pub found_injective : (r s : Option ℕ) → option_of r ≡ option_of s → r ≡ s
+found_injective = option_injective
 
 -- what was measured
 pub measured_injective : (r s : Result ℕ OutOfRange) → measured_of r ≡ measured_of s → r ≡ s

@@ -31,7 +31,8 @@ pub enum Reading {
     Erased,
 }
 
-// The levels of a block for one n, as far as it is filled, and zeros behind them.
+// The levels of a block for one n, as far as it is filled, and zeros behind them. It is plain data that a caller can make up, in an
+// array of fixed size, since nothing here uses a heap; so how far it is filled stands beside the levels.
 #[derive(Clone, Copy, Debug)]
 pub struct Assembler {
     pub n: u32,
