@@ -21,7 +21,8 @@ pub fn number(bytes: &[u8], place: usize, width: usize) -> u64
     number
 }
 
-// The lowest bytes of a number, so many as the field is wide.
+// The lowest bytes of a number, so many as the field is wide. The buffer and the place stay two parameters, as in `text`, which says
+// why.
 pub fn put(out: &mut [u8], at: usize, width: usize, v: u64) -> usize
     requires { at + width ≤ length out.old }
     ensures { Put out.old at (bytes_of width v) result out.new }
