@@ -1,13 +1,13 @@
 -- `checks::folded` meets its contract: past the tests of the code, those of the folding are left.
 use Rattle.std.specs.Prelude.{ℕ, ◌*◌, ◌%◌, ◌^◌, ◌≤◌, ◌≡◌}
 use Rattle.std.proofs.Common.{sym, ◌∙◌, arith}
-use Rattle.std.proofs.lemmas.Result.{err_from_is_err_and}
 use borrow.Author.Tests.{lt-ltb, le-ltb, le-leb, lt-leb}
 use Rattle.rules.specs.Refusals.{answer, largest}
 use Rattle.rules.specs.Orders.{code_order, folding_order, folded_order}
 use Rattle.laws.specs.Numbers.Bits.{power_shifted}
 use Rattle.laws.specs.Answers.Orders.{Passed, answer_after, code_right}
 use Rattle.checks.specs.Verdicts.{folded_verdict}
+use Rattle.refusal.proofs.Exits.{handed_on}
 use Rattle.checks.specs.Passing.{code_passed, code_refused_first}
 use Rattle.checks.proofs.folded.Goals as goal
 
@@ -27,9 +27,7 @@ module _ (n mask : ℕ) (right : Passed (code_order n mask)) where
 
 pub returns-in_err-code : goal.returns-in_err-code
 unfolding folded_verdict folded_order
-returns-in_err-code c =
-    let passed_on = err_from_is_err_and c.from_residual.result c.from_residual.ensures.1 in
-    rw (passed_on.1, passed_on.2) (code_refused_first _ _ c.code.ensures _ tt c.in_err-code.was)
+returns-in_err-code c = handed_on _ _ _ c.from_residual.ensures.1 (code_refused_first _ _ c.code.ensures _ tt c.in_err-code.was)
 
 pub overflow_shl-n : goal.overflow_shl-n
 overflow_shl-n c = omega (arith, small _ _ (code_passed _ _ c.code.ensures c.in_ok-code.was))

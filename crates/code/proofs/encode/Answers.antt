@@ -1,11 +1,11 @@
 -- `code::encode` meets its contract: past the tests of the code, that of the message is left.
 use Rattle.std.specs.Prelude.{ℕ, ◌≤◌, ◌≡◌, [], ◌∷◌}
 use Rattle.std.proofs.Common.{sym, ◌∙◌, ap}
-use Rattle.std.proofs.lemmas.Result.{err_from_is_err_and}
 use Rattle.rules.specs.Refusals.{done, answer, wrong_message, largest}
 use Rattle.rules.specs.Orders.{code_order, encode_order}
 use Rattle.rules.specs.Answers.{encoded, encode_answer}
 use Rattle.laws.specs.Answers.Orders.{Passed, code_right, answer_after}
+use Rattle.refusal.proofs.Exits.{handed_on}
 use Rattle.checks.specs.Passing.{code_passed, code_refused_first}
 use Rattle.code.proofs.Tests.{message_test, words_right}
 use Rattle.code.proofs.encode.Goals as goal
@@ -21,9 +21,7 @@ module _ (n mask : ℕ) (right : Passed (code_order n mask)) where
 
 pub returns-in_err-code : goal.returns-in_err-code
 unfolding encode_answer encode_order
-returns-in_err-code c =
-    let passed_on = err_from_is_err_and c.from_residual.result c.from_residual.ensures.1 in
-    rw (passed_on.1, passed_on.2) (code_refused_first _ _ c.code.ensures _ _ c.in_err-code.was)
+returns-in_err-code c = handed_on _ _ _ c.from_residual.ensures.1 (code_refused_first _ _ c.code.ensures _ _ c.in_err-code.was)
 
 pub returns-then-reaches : goal.returns-then-reaches
 returns-then-reaches c =

@@ -2,7 +2,6 @@
 use Rattle.std.specs.Prelude.{ℕ, ◌*◌, ◌%◌, ◌^◌, ◌≡◌, refl, Option, Some, None, MatchOption, IsSomeAnd}
 use Rattle.std.proofs.Common.{sym, ◌∙◌, ap, arith, rules}
 use Rattle.std.proofs.Math.Option.{some}
-use Rattle.std.proofs.lemmas.Result.{err_from_is_err_and}
 use Rattle.rules.specs.Guard.{fewest_ones, guard_of, guard_for}
 use Rattle.rules.specs.Refusals.{done}
 use Rattle.rules.specs.Orders.{code_order}
@@ -10,6 +9,7 @@ use Rattle.rules.specs.Answers.{guard_answer}
 use Rattle.laws.specs.Answers.Orders.{Passed, code_right, passed_done}
 use Rattle.word.specs.Words.{size_of}
 use Rattle.word.specs.Options.{option_of}
+use Rattle.refusal.proofs.Exits.{handed_on}
 use Rattle.checks.specs.Passing.{code_passed, code_refused}
 use Rattle.code.proofs.Tests.{own_size, fewest_small, guard_fits}
 use Rattle.code.proofs.Code.guard.Goals as goal
@@ -31,9 +31,7 @@ figures (Some w) None mapped each = absurd mapped
 
 pub returns-in_err-code : goal.returns-in_err-code
 unfolding guard_answer
-returns-in_err-code c =
-    let passed_on = err_from_is_err_and c.from_residual.result c.from_residual.ensures.1 in
-    rw (passed_on.1, passed_on.2) (code_refused _ _ c.code.ensures _ c.in_err-code.was)
+returns-in_err-code c = handed_on _ _ _ c.from_residual.ensures.1 (code_refused _ _ c.code.ensures _ c.in_err-code.was)
 
 pub map-requires : goal.map-requires
 map-requires c x found _ _ = omega (arith, fewest_small _ _ x (sym c.fewest_ones-fewest.ensures ∙ ap option_of found))

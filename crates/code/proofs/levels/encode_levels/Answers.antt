@@ -1,6 +1,6 @@
 -- `code::levels::encode_levels` meets its contract.
 use Rattle.std.proofs.Common.{sym, ◌∙◌}
-use Rattle.std.proofs.lemmas.Result.{err_from_is_err_and}
+use Rattle.refusal.proofs.Exits.{handed_on}
 use Rattle.word.specs.Sizes.{slots_right}
 use Rattle.code.proofs.Slices.{levels_size, levels_length, levels_answer, left_refused, left_done}
 use Rattle.code.proofs.levels.encode_levels.Goals as goal
@@ -23,8 +23,7 @@ returns-in_err-encoded c =
     let right = sym c.wrong_size.ensures ∙ c.if-wrong_size.false in
     let whole = c.if-levels-slots.false ∙ slots_right _ right _ c.slots.ensures in
     let ends = left_refused _ _ _ _ _ (c.in_err-encoded.ensures ∙ levels_answer _ _ _ _ right whole) in
-    let passed_on = err_from_is_err_and c.from_residual.result c.from_residual.ensures.1 in
-    rw (passed_on.1, passed_on.2) (record { answer = ends.0; left = ends.1 })
+    record { answer = handed_on _ _ _ c.from_residual.ensures.1 ends.0; left = ends.1 }
 
 pub returns : goal.returns
 returns c =
