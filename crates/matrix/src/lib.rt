@@ -16,7 +16,7 @@ use word::Word;
 fn bytes() -> &'static [u8; 256]
     ensures { result.now ≡ byte_words }
 {
-    &BYTES
+    BYTES
 }
 
 // The codeword of a word at n, from 3 on: a byte's from the table; else the upper half's, and below it that of the sum of both halves.

@@ -1,7 +1,7 @@
 // The table of all 256 transformed bytes: its rule is the matrix at n = 3.
 
-// The codeword of each byte at n = 3.
-pub(crate) static BYTES: [u8; 256] = [
+// The codeword of each byte at n = 3. The constant is a reference, since naming a constant copies what it is.
+pub(crate) const BYTES: &[u8; 256] = &[
     0, 1, 3, 2, 5, 4, 6, 7, 15, 14, 12, 13, 10, 11, 9, 8, 17, 16, 18, 19, 20, 21, 23, 22, 30, 31,
     29, 28, 27, 26, 24, 25, 51, 50, 48, 49, 54, 55, 53, 52, 60, 61, 63, 62, 57, 56, 58, 59, 34, 35,
     33, 32, 39, 38, 36, 37, 45, 44, 46, 47, 40, 41, 43, 42, 85, 84, 86, 87, 80, 81, 83, 82, 90, 91,
