@@ -25,6 +25,8 @@ fn turned<F: Fn(usize, usize) -> (usize, usize)>(n: u32, frozen: Word, w: Word, 
     ensures { (packs : Bool) → Goes (F.post ends) packs → word_of result ≡ turned_word packs (size_of n) (word_of frozen) (word_of w) }
 {
     let mut r: u64 = 0;
+    // The place is counted here and not by an enumerate over a filter of the indices: what has been moved is said up to each index,
+    // frozen ones too, and a loop over all of them says it at each.
     let mut place = 0;
     for i in 0..word::slots(n) {
         if frozen.bit(i) == 0 {
