@@ -21,8 +21,8 @@ use Rattle.laws.specs.Seats.Copied.{change_more}
 use Rattle.word.specs.declared.Word.{Word}
 use Rattle.word.specs.Words.{word_of, word_at}
 use Rattle.groups.specs.declared.Tree.{Tree}
-use Rattle.groups.specs.declared.Step.TheVariants.{Column}
-use Rattle.groups.specs.Grouping.{Grouped, Doubled, step_of}
+use Rattle.groups.specs.Doubling.{Doubled}
+use Rattle.groups.specs.Grouping.{Grouped}
 use Rattle.groups.specs.Seating.{Seated}
 use Rattle.groups.proofs.SeatLoops.{index_at, index_fits}
 use Rattle.groups.proofs.Tabling.{size_small, seat-within}
@@ -50,17 +50,19 @@ module _ {g : Tree} (given : Grouped g) {l : List Word} {t : ℕ} (changed : Cha
   room_for_more = rw (many_is, changed.long) (omega (arith, two-pow-succ t, pow_mono {i = suc t} {j = 8} (omega (arith, h, size_small given))))
 
   -- one slot more doubles the patterns
-  pub changed_next : {after : List Word} (column : Word) → length after ≡ length l → word_of column ≡ codeword g.n (2 ^ seat_index g.n g.folding t)
-      → Doubled l after (1 * 2 ^ t % 2 ^ 64) (step_of (Column column)) → Changed g after (t + 1)
-  changed_next {after = after} column same is made = record { long = same ∙ changed.long; done = rw twice done }
+  pub changed_next : {after : List Word} {step : Word → Word → Type 0} (column : Word) → length after ≡ length l
+      → word_of column ≡ codeword g.n (2 ^ seat_index g.n g.folding t) → Doubled l after (1 * 2 ^ t % 2 ^ 64) step
+      → ((w x : Word) → step w x → word_of x ≡ bit_xor (word_of w) (word_of column)) → Changed g after (t + 1)
+  changed_next {after = after} {step = step} column same is made added = record { long = same ∙ changed.long; done = rw twice done }
     where
-      doubled : Doubled l after (2 ^ t) (step_of (Column column))
+      doubled : Doubled l after (2 ^ t) step
       doubled = rw many_is at made
 
       done : Begins after (change_of g.n g.folding 0) (2 ^ t + 2 ^ t)
       done =
           begins_doubled (change_of g.n g.folding 0) doubled
-          (λ u below. ap (bit_xor (change_of g.n g.folding 0 u)) is ∙ sym (change_more g.n g.folding given.fits t u (rw given.sized at h) below))
+          (λ u w x below e s. rw e at (added w x s) ∙ ap (bit_xor (change_of g.n g.folding 0 u)) is
+          ∙ sym (change_more g.n g.folding given.fits t u (rw given.sized at h) below))
           changed.done
 
       twice : 2 ^ (t + 1) ≡ 2 ^ t + 2 ^ t

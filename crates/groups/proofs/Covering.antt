@@ -16,10 +16,10 @@ use Rattle.laws.proofs.Seats.Copied.{covered_first, covered_more}
 use Rattle.laws.specs.Seats.Seats.{seat_index}
 use Rattle.laws.specs.Seats.SeatedDown.{groups_blocks}
 use Rattle.word.specs.declared.Word.{Word}
-use Rattle.word.specs.Words.{word_at}
+use Rattle.word.specs.Words.{word_of, word_at}
 use Rattle.groups.specs.declared.Tree.{Tree}
-use Rattle.groups.specs.declared.Step.TheVariants.{Above}
-use Rattle.groups.specs.Grouping.{Grouped, Doubled, step_of}
+use Rattle.groups.specs.Doubling.{Doubled}
+use Rattle.groups.specs.Grouping.{Grouped}
 use Rattle.groups.specs.Seating.{Seated}
 use Rattle.groups.proofs.SeatLoops.{index_at}
 use Rattle.groups.proofs.Tabling.{few_groups, first_seat}
@@ -89,20 +89,20 @@ module _ {g : Tree} (given : Grouped g) where
         ∙ add_comm (rest * 2 ^ place) rest ∙ sym (moved k h).1
 
     -- one bit more doubles the groups
-    pub covering_next : {l : List ℕ} {after : List Word} → Seated l g.n g.folding → length after ≡ length r
-        → Doubled r after m (step_of (Above (get_or l (m * g.size) 0))) → Covering g after (m * 2)
-    covering_next {l = l} {after = after} seated same made =
+    pub covering_next : {l : List ℕ} {after : List Word} {step : Word → Word → Type 0} → Seated l g.n g.folding → length after ≡ length r
+        → Doubled r after m step
+        → ((w x : Word) → step w x → word_of x ≡ bit_xor (word_of w) (word_of w * 2 ^ get_or l (m * g.size) 0 % 2 ^ (2 ^ largest)))
+        → Covering g after (m * 2)
+    covering_next {l = l} {after = after} seated same doubled made =
         record {
           long = same ∙ inv.long;
           power = (suc inv.power.0, twice ∙ ap (λ (x : ℕ). x + x) inv.power.1 ∙ omega (arith, two-pow-succ inv.power.0));
-          done = rw twice (begins_doubled (covered_of g.n g.folding) doubled moved-xor inv.done);
+          done = rw twice
+              (begins_doubled (covered_of g.n g.folding) doubled (λ u w x h e s. rw (e, here) at (made w x s) ∙ moved-xor u h) inv.done);
         }
       where
         here : get_or l (m * g.size) 0 ≡ place
         here = index_at seated (m * g.size) (first_seat given inside) ∙ ap (λ (s : ℕ). seat_index g.n g.folding (m * s)) given.sized
-
-        doubled : Doubled r after m (step_of (Above place))
-        doubled = rw here at made
 
         twice : m * 2 ≡ m + m
         twice = omega arith

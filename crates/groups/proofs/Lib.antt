@@ -1,3 +1,4 @@
+pub mod DoublingLemmas
 pub mod Widening
 pub mod WideningBy
 pub mod SeatLoops

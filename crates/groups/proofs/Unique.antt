@@ -11,9 +11,9 @@ use Rattle.word.specs.Words.{word_at}
 use Rattle.groups.specs.Unique.{tree_injective}
 use Rattle.groups.proofs.folded.Reads as folded
 use Rattle.groups.proofs.seat.seats.Reads as seats
-use Rattle.groups.proofs.shut.Reads as shut
-use Rattle.groups.proofs.covered.Reads as covered
-use Rattle.groups.proofs.changes.Reads as changes
+use Rattle.groups.proofs.layout.Layout.shut.Reads as shut
+use Rattle.groups.proofs.layout.Layout.covered.Reads as covered
+use Rattle.groups.proofs.layout.Layout.changes.Reads as changes
 
 -- the first m words of both are the same
 abbrev pub SameWords : ℕ → List Word → List Word → Type 0
@@ -25,12 +25,12 @@ folded_unique κs a r s v w p q = tree_injective r s p.3 q.3 (one_answer p.0 q.0
 pub seats_unique : Agreed (λ κs a r s. take (2 ^ a.0) r ≡ take (2 ^ a.0) s) seats.Learnt
 seats_unique κs a r s v w p q = one_answer p.listed q.listed
 
--- the tree is the second argument
-pub shut_unique : Agreed (λ κs a r s. SameWords a.1.0.groups r s) shut.Learnt
+-- the layout is the first argument, and the only one of the others
+pub shut_unique : Agreed (λ κs a r s. SameWords a.0.now.tree.groups r s) shut.Learnt
 shut_unique κs a r s v w p q k l = one_answer (p k l) (q k l)
 
-pub covered_unique : Agreed (λ κs a r s. SameWords a.1.0.groups r s) covered.Learnt
+pub covered_unique : Agreed (λ κs a r s. SameWords a.0.now.tree.groups r s) covered.Learnt
 covered_unique κs a r s v w p q k l = one_answer (p k l) (q k l)
 
-pub changes_unique : Agreed (λ κs a r s. SameWords (2 ^ a.1.0.size) r s) changes.Learnt
+pub changes_unique : Agreed (λ κs a r s. SameWords (2 ^ a.0.now.tree.size) r s) changes.Learnt
 changes_unique κs a r s v w p q k l = one_answer (p k l) (q k l)

@@ -1,53 +1,47 @@
--- Widening a list of indices in place, one element after another.
+-- A list of indices that was doubled by adding a step is widened by it.
 use Prim.Native.Nat.{ℕ, ◌+◌, ◌≤◌, ◌<◌}
-use mathlib.Core.Path.{◌≡◌, refl, sym, ap, ap₂, ◌∙◌}
-use mathlib.Core.List.{List, [], ◌∷◌, ◌++◌, map, append_assoc, append-nil}
-use native.Mathlib.Nat.{add-suc, add-zero}
-use native.Mathlib.Numerals.{add-one}
+use mathlib.Core.Path.{◌≡◌, sym, ap, ◌∙◌}
+use mathlib.Core.List.{List, ◌++◌, map}
+use native.Mathlib.Nat.{le_dest}
+use native.Mathlib.Decide.{dec_lt}
 use native.Mathlib.Omega.{arith}
-use lib.ListN.{length, take, get_or, set, length-map, get_or-map, get_or-append}
-use lib.Seq.{take-suc, take-suc-set, take_all, get_or-take, length-take-le}
+use lib.ListN.{length, take, get_or, length-append, length-map, get_or-map, get_or-append}
+use lib.Seq.{ext_get_or, get_or-take, get_or-append-add, length-take-le}
+use Rattle.std.proofs.lemmas.List.{get_or_default}
 use Rattle.laws.specs.Seats.Seats.{widened}
+use Rattle.groups.specs.Doubling.{Doubled}
 
-module _ (l : List ℕ) (m step : ℕ) where
-  -- the indices with the step added
-  abbrev stepped : List ℕ
-  stepped = map (λ i. i + step) (take m l)
+module _ (l index : List ℕ) (m step : ℕ) where
+  -- the first indices, and those with the step added
+  abbrev first : List ℕ
+  first = take m l
 
-  -- after p turns: the first m, and p of them with the step added
-  pub record Turns (index : List ℕ) (p : ℕ) : Type 0 where
-    pub same : length index ≡ length l
-    pub inside : p ≤ m
-    pub filled : take (m + p) index ≡ take m l ++ take p stepped
+  abbrev behind : List ℕ
+  behind = map (λ i. i + step) first
 
-  pub no_turn : Turns l 0
-  no_turn = record { same = refl; inside = omega arith; filled = ap (λ (k : ℕ). take k l) (add-zero m) ∙ sym (append-nil (take m l)) }
+  module _ (room : m + m ≤ length l) (same : length index ≡ length l) {made : ℕ → ℕ → Type 0} (doubled : Doubled l index m made)
+      (adds : (i r : ℕ) → made i r → r ≡ i + step) where
+    long : length first ≡ m
+    long = length-take-le m l (omega (arith, room))
 
-  module _ (room : m + m ≤ length l) {index : List ℕ} {p : ℕ} (turns : Turns index p) where
-    lengths : length (take m l) ≡ m
-    lengths = length-take-le m l (omega arith)
+    as_long : length behind ≡ m
+    as_long = length-map first (λ i. i + step) ∙ long
 
-    -- an index among the first m is still what it was
-    pub still : (q : ℕ) → q < m → get_or index q 0 ≡ get_or l q 0
-    still q h =
-        sym (get_or-take (m + p) index q 0 (omega arith)) ∙ ap (λ (x : List ℕ). get_or x q 0) turns.filled
-        ∙ get_or-append (take m l) (take p stepped) 0 q (omega (arith, lengths)) ∙ get_or-take m l q 0 h
+    at : (i : ℕ) → i < m + m → Dec (i < m) → get_or (take (m + m) index) i 0 ≡ get_or (first ++ behind) i 0
+    at i h (yes low) =
+        get_or-take (m + m) index i 0 h ∙ doubled.kept i 0 low ∙ sym (get_or-take m l i 0 low)
+        ∙ sym (get_or-append first behind 0 i (omega (arith, long)))
+    at i h (no high) =
+        let d = le_dest {n = m} {m = i} (omega arith) in
+        let low : d.0 < m = omega (arith, d.1) in
+        let e : i ≡ length first + d.0 = omega (arith, long, d.1) in
+        get_or-take (m + m) index i 0 h ∙ ap (λ (k : ℕ). get_or index k 0) (sym d.1) ∙ adds _ _ (doubled.added d.0 0 low)
+        ∙ ap (λ (x : ℕ). x + step) (sym (get_or-take m l d.0 0 low)) ∙ sym (get_or-map (λ i. i + step) first d.0 0)
+        ∙ get_or_default behind d.0 (0 + step) 0 (omega (arith, as_long)) ∙ sym (get_or-append-add first behind d.0 0)
+        ∙ ap (λ (k : ℕ). get_or (first ++ behind) k 0) (sym e)
 
-    pub one_turn : p < m → Turns (set index (m + p) (get_or index p 0 + step)) (p + 1)
-    one_turn h =
-        record {
-          same = lib.ListN.length-set index (m + p) _ ∙ turns.same;
-          inside = omega arith;
-          filled =
-              rw (add-one p, add-suc m p, take-suc-set index (m + p) (get_or index p 0 + step) (omega (arith, turns.same)))
-              (ap₂ (λ (x y : List ℕ). x ++ y) turns.filled
-              (ap (λ (v : ℕ). v ∷ []) (ap (λ (x : ℕ). x + step) (still p h)))
-              ∙ append_assoc (take m l) (take p stepped) _
-              ∙ ap (λ (x : List ℕ). take m l ++ x) (sym (take-suc stepped p (0 + step) (omega (arith, lengths, length-map (take m l) (λ i. i + step)))
-              ∙ ap (λ (v : ℕ). take p stepped ++ (v ∷ [])) (get_or-map (λ i. i + step) (take m l) p 0 ∙ ap (λ (x : ℕ). x + step) (get_or-take m l p 0 h)))));
-        }
-
-  -- after m turns the indices are widened
-  pub all_turns : (index : List ℕ) → m ≤ length l → Turns index m → take (m + m) index ≡ widened (take m l) step
-  all_turns index fits turns =
-      turns.filled ∙ ap (λ (x : List ℕ). take m l ++ x) (take_all m stepped (omega (arith, length-take-le m l fits, length-map (take m l) (λ i. i + step))))
+    pub widened_doubled : take (m + m) index ≡ widened (take m l) step
+    widened_doubled =
+        let all : length (take (m + m) index) ≡ m + m = length-take-le (m + m) index (omega (arith, room, same)) in
+        ext_get_or 0 (take (m + m) index) (first ++ behind) (all ∙ omega (arith, length-append first behind, long, as_long))
+        (λ i h. at i (omega (arith, all)) (dec_lt i m))

@@ -1,16 +1,13 @@
 -- The tree of a folding as the code holds it, and what its tables hold for each group or pattern.
-use Rattle.std.specs.Prelude.{ℕ, ◌+◌, ◌*◌, ◌%◌, ◌^◌, ◌≤◌, ◌<◌, ◌≡◌, List}
-use Rattle.std.specs.Int.Bits.{bit_xor}
+use Rattle.std.specs.Prelude.{ℕ, ◌^◌, ◌≤◌, ◌<◌, ◌≡◌, List}
 use Rattle.std.specs.Int.Count.{ones}
 use Rattle.rules.specs.Folding as rules
 use Rattle.rules.specs.Refusals.{largest}
 use Rattle.laws.specs.Seats.Decided.{change_of, shut_of}
 use Rattle.laws.specs.Seats.Copied.{covered_of}
 use Rattle.word.specs.declared.Word.{Word}
-use Rattle.word.specs.Words.{word_of, word_at}
+use Rattle.word.specs.Words.{word_at}
 use Rattle.groups.specs.declared.Tree.{Tree}
-use Rattle.groups.specs.declared.Step.{Step}
-use Rattle.groups.specs.declared.Step.TheVariants.{Above, Column}
 
 -- n up to the largest, a folding of at most three ones, the size of its groups and their number, and an allowance of 32 bits
 pub record Grouped (g : Tree) : Type 0 where
@@ -28,16 +25,6 @@ Covered l g = (k : ℕ) → k < g.groups → word_at l k ≡ covered_of g.n g.fo
 -- for each group, its indices that are frozen in a mask
 abbrev pub Shut : List Word → Tree → ℕ → Type 0
 Shut l g mask = (k : ℕ) → k < g.groups → word_at l k ≡ shut_of g.n g.folding mask k
-
--- the first m words, and behind them what a function makes of each; of what stands behind those nothing is said
-pub record Doubled (before after : List Word) (m : ℕ) (f : ℕ → ℕ) : Type 0 where
-  pub kept : (u : ℕ) → u < m → word_at after u ≡ word_at before u
-  pub added : (u : ℕ) → u < m → word_at after (m + u) ≡ f (word_at before u)
-
--- a word with what a step adds: itself moved up, or a word
-abbrev pub step_of : Step → ℕ → ℕ
-step_of (Above i) w = bit_xor w (w * 2 ^ i % 2 ^ (2 ^ largest))
-step_of (Column column) w = bit_xor w (word_of column)
 
 -- for each pattern, the word whose codeword has it in group 0 and zeros elsewhere
 abbrev pub Changes : List Word → Tree → Type 0

@@ -1,3 +1,4 @@
+pub mod Doubling
 pub mod Seating
 pub mod Grouping
 pub mod Unique

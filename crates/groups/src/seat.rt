@@ -3,21 +3,12 @@ ghost use Rattle.std.specs.Prelude.{◌≡◌, ℕ, ◌+◌, ◌*◌, ◌^◌, �
 ghost use Rattle.rules.specs.Below.{count_below};
 ghost use Rattle.rules.specs.Refusals.{largest};
 ghost use Rattle.laws.specs.Seats.Seats as laws;
-ghost use Rattle.groups.specs.Seating.{AtMost, Widens, WidensBy, Seated};
+ghost use Rattle.groups.specs.Seating.{AtMost, WidensBy, Seated};
 
-// The first m indices once more behind them, each with a step added.
-fn widen(index: &mut [usize], m: usize, step: usize)
-    requires { Widens index.old m step }
-    ensures { take (m + m) index.new ≡ laws.widened (take m index.old) step }
-{
-    let mut p = 0;
-    while p < m {
-        index[m + p] = index[p] + step;
-        p += 1;
-    }
-}
+use crate::doubling::double;
 
 // The first m indices widened by each bit of the folding below n that has the value wanted, and how many there are then.
+// Widened by a bit, a list has its indices once more behind them, each with the bit added.
 fn widen_by(index: &mut [usize], m: usize, n: u32, folding: u32, wanted: u32) -> usize
     requires { WidensBy index.old m n folding wanted }
     ensures many { result ≡ m * 2 ^ count_below n (laws.has_bit folding wanted) }
@@ -25,13 +16,12 @@ fn widen_by(index: &mut [usize], m: usize, n: u32, folding: u32, wanted: u32) ->
     ensures small { (c : ℕ) → AtMost index.old m c → AtMost index.new result (c + 2 ^ largest * n) }
 {
     let mut many = m;
-    let mut b: u32 = 0;
-    while b < n {
+    for b in 0..n {
         if (folding >> b) % 2 == wanted {
-            widen(index, many, 1 << b);
+            let bit: usize = 1 << b;
+            double(index, many, |i: usize| i + bit);
             many = many * 2;
         }
-        b += 1;
     }
     many
 }
