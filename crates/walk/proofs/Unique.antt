@@ -4,8 +4,7 @@
 use mathlib.Core.Path.{◌≡◌}
 use Rattle.laws.specs.Answers.OneAnswer.{Agreed, one_answer}
 use Rattle.walk.specs.States.{state_of}
-use Rattle.walk.proofs.walk.Reads as walk
+use Rattle.walk.proofs.Walk.walk.Reads as walk
 
--- the tree is the fourth argument
-pub walk_unique : Agreed (λ κs a r s. state_of a.1.1.1.0.allowance r ≡ state_of a.1.1.1.0.allowance s) walk.Learnt
+pub walk_unique : Agreed (λ κs a r s. state_of r ≡ state_of s) walk.Learnt
 walk_unique κs a r s v w p q = one_answer p q

@@ -1,4 +1,4 @@
--- `walk::walk` meets its contract: the word 0 has every group still to be decided.
+-- `Walk::walk` meets its contract: the word 0 has every group still to be decided.
 use Prim.Native.Nat.{ℕ, ◌*◌, ◌^◌}
 use mathlib.Core.Path.{ap, ap₂, ◌∙◌}
 use mathlib.Core.Option.{Option, some}
@@ -12,8 +12,8 @@ use Rattle.groups.specs.Grouping.{Grouped}
 use Rattle.walk.specs.Nodes.{Begun, most}
 use Rattle.groups.specs.declared.Tree.{Tree}
 use Rattle.groups.proofs.Tabling.{all_indices}
-use Rattle.walk.proofs.Trying.{running_state, under}
-use Rattle.walk.proofs.walk.Goals as goal
+use Rattle.walk.proofs.Trying.{under}
+use Rattle.walk.proofs.Walk.walk.Goals as goal
 
 -- the word 0, and room for the distance of every slot
 begin : {g : Tree} → Grouped g → Begun g g.groups 0 0
@@ -38,9 +38,9 @@ node-requires c =
 pub returns : goal.returns
 returns c =
     let begun = c.start.ensures in
-    let args = c.args in
-    let all = args.tree.groups in
+    let self = c.args.self.now in
+    let all = self.tree.groups in
     c.node.ensures
-    ∙ ap₂ (λ (d : ℕ) (o : Option (State keep_best)). under args.rows.now args.tables.now args.tree all 0 d o)
-    (ap (decided args.tree.n args.tree.folding all) c.none.ensures ∙ decided_none args.tree.n args.tree.folding all)
-    (running_state args.tree.allowance c.start.result (omega (arith, begun.1)) ∙ (λ i. some (record { kept = begun.0 i; visits = begun.1 i })))
+    ∙ ap₂ (λ (d : ℕ) (o : Option (State keep_best)). under c.args.rows.now self all 0 d o)
+    (ap (decided self.tree.n self.tree.folding all) c.none.ensures ∙ decided_none self.tree.n self.tree.folding all)
+    (λ i. some (record { kept = begun.0 i; visits = begun.1 i }))
