@@ -6,15 +6,9 @@ use Rattle.rules.specs.Level.{in_range, level_at}
 use Rattle.rules.specs.Refusals.{largest}
 use Rattle.laws.specs.Distance.Excess.{excess, nearest}
 use Rattle.laws.specs.Rows.SortedRows.{row_of}
-use Rattle.word.specs.declared.Word.{Word}
-use Rattle.word.specs.Words.{word_at}
 use Rattle.rows.specs.Table.{entry_at}
-use Rattle.rows.specs.Adding.{Small}
-
--- a number for each seat of the largest block, small enough to be added up
-pub record SmallSeats (l : List ℕ) : Type 0 where
-  pub long : length l ≡ 2 ^ largest
-  pub small : Small l
+use Rattle.rows.specs.Adding.{nothing}
+use Rattle.rows.specs.declared.seat.Added.{Added}
 
 -- the level at a seat
 abbrev pub seat_level : List ℤ → List ℕ → ℕ → ℤ
@@ -30,29 +24,28 @@ pub record Levelled (levels : List ℤ) (index : List ℕ) (first count : ℕ) :
 abbrev pub near_sum : List ℤ → List ℕ → ℕ → ℕ → ℕ
 near_sum levels index first t = sum_below t (λ i. nearest (seat_level levels index (first + i)))
 
--- the lists have what the bits of a slot cost more
-abbrev pub SeatGives : List ℤ → List ℕ → List ℕ → List ℕ → ℕ → Type 0
-SeatGives levels index zero one seat =
-    (get_or zero seat 0 ≡ excess (seat_level levels index seat) 0) × (get_or one seat 0 ≡ excess (seat_level levels index seat) 1)
+-- a seat has what the bits of its slot cost more
+abbrev pub SeatGives : List ℤ → List ℕ → List Added → ℕ → Type 0
+SeatGives levels index seats seat =
+    ((get_or seats seat nothing).zero ≡ excess (seat_level levels index seat) 0)
+    × ((get_or seats seat nothing).one ≡ excess (seat_level levels index seat) 1)
 
--- of the group whose first seat is given, the first t slots are in the lists, all else in these is as it was, and their nearer bits
+-- of the group whose first seat is given, the first t slots are in the list, all else in it is as it was, and their nearer bits
 -- cost so much
-pub record GroupGives (levels : List ℤ) (index : List ℕ) (first : ℕ) (zero₀ one₀ : List ℕ) (t : ℕ) (zero one : List ℕ) (near : ℕ) : Type 0 where
-  pub own : (i : ℕ) → i < t → SeatGives levels index zero one (first + i)
-  pub other : (seat : ℕ) → (seat < first) ⊎ (first + t ≤ seat) → (get_or zero seat 0 ≡ get_or zero₀ seat 0) × (get_or one seat 0 ≡ get_or one₀ seat 0)
-  pub small_zero : SmallSeats zero
-  pub small_one : SmallSeats one
+pub record GroupGives (levels : List ℤ) (index : List ℕ) (first : ℕ) (seats₀ : List Added) (t : ℕ) (seats : List Added) (near : ℕ) : Type 0 where
+  pub own : (i : ℕ) → i < t → SeatGives levels index seats (first + i)
+  pub other : (seat : ℕ) → (seat < first) ⊎ (first + t ≤ seat) → get_or seats seat nothing ≡ get_or seats₀ seat nothing
+  pub long : length seats ≡ 2 ^ largest
   pub sum : near ≡ near_sum levels index first t
 
--- all slots of so many groups are in the lists, and what the nearer bits of each group cost
-pub record Gives (levels : List ℤ) (index : List ℕ) (groups size : ℕ) (zero one : List ℕ) (near : List Word) : Type 0 where
-  pub own : (seat : ℕ) → seat < groups * size → SeatGives levels index zero one seat
-  pub small_zero : SmallSeats zero
-  pub small_one : SmallSeats one
-  pub sums : (k : ℕ) → k < groups → word_at near k ≡ near_sum levels index (k * size) size
+-- all slots of so many groups are in the list, and what the nearer bits of each group cost
+pub record Gives (levels : List ℤ) (index : List ℕ) (groups size : ℕ) (seats : List Added) (near : List ℕ) : Type 0 where
+  pub own : (seat : ℕ) → seat < groups * size → SeatGives levels index seats seat
+  pub long : length seats ≡ 2 ^ largest
+  pub sums : (k : ℕ) → k < groups → get_or near k 0 ≡ near_sum levels index (k * size) size
 
 -- the table has the sorted row of each group by what its bits cost more, and the list what its nearer bits cost
-pub record Ranked (levels : List ℤ) (index : List ℕ) (groups size : ℕ) (table : List (List ℕ)) (near : List Word) : Type 0 where
+pub record Ranked (levels : List ℤ) (index : List ℕ) (groups size : ℕ) (table : List (List ℕ)) (near : List ℕ) : Type 0 where
   pub rows : (k j : ℕ) → k < groups → j < 2 ^ size
       → entry_at table size k j ≡ get_or (row_of (λ t b. excess (seat_level levels index (k * size + t)) b) size) j 0
-  pub sums : (k : ℕ) → k < groups → word_at near k ≡ near_sum levels index (k * size) size
+  pub sums : (k : ℕ) → k < groups → get_or near k 0 ≡ near_sum levels index (k * size) size

@@ -10,7 +10,9 @@ ghost use Rattle.word.specs.Words.{word_of};
 ghost use Rattle.tree.specs.Reading.{answer_of};
 ghost use Rattle.tree.specs.Search.{Searchable, search_answer};
 
+use groups::layout::Layout;
 use refusal::Refusal;
+use walk::Walk;
 use word::Word;
 
 // A finished decoding.
@@ -34,21 +36,27 @@ fn search(
     requires { Searchable n levels.now folding }
     ensures { answer_of result ≡ search_answer n levels.now (word_of frozen) folding allowance }
 {
-    let tree = groups::folded(n, folding, allowance);
-    let index = groups::seat::seats(n, folding);
-    let shut = groups::shut(&index, tree, frozen);
+    let layout = Layout {
+        tree: groups::folded(n, folding, allowance),
+        index: groups::seat::seats(n, folding),
+    };
+    let tree = layout.tree;
+    let shut = layout.shut(frozen);
     if let Some(level) = empty::first_empty(&shut, tree) {
         return Err(Refusal::NoCandidate(level));
     }
-    let mut tables = [[Word::none(); word::SLOTS]; 3];
-    let rows = slot::rows(levels, &index, tree, &mut tables[walk::NEAR]);
-    let change = groups::changes(&index, tree);
-    tables[walk::COVERED] = groups::covered(&index, tree);
-    tables[walk::SHUT] = shut;
-    let end = walk::walk(&rows, &change, &tables, tree);
-    if tree.allowance < end.visits {
+    let mut near = [0u64; word::SLOTS];
+    let rows = slot::rows(levels, &layout, &mut near);
+    let change = layout.changes();
+    let walk = Walk {
+        tree,
+        covered: layout.covered(),
+        shut,
+        near,
+    };
+    let Some(end) = walk.walk(&rows, &change) else {
         return Err(Refusal::Allowance);
-    }
+    };
     let d = end.word;
     let distance = end.distance as u32;
     let visits = end.visits as u32;

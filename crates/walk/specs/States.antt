@@ -1,5 +1,5 @@
 -- The state of the code's walk as the rules' state, or none where the allowance is used up.
-use Rattle.std.specs.Prelude.{ℕ, ◌^◌, cond, ltb, Option, None, Some}
+use Rattle.std.specs.Prelude.{◌^◌, cond, ltb, Option, None, Some}
 use Rattle.std.proofs.Math.Option as rules
 use Rattle.rules.specs.Level.{Best, nothing, best}
 use Rattle.rules.specs.Walk.{State, keep_best}

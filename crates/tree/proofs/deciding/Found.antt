@@ -8,7 +8,7 @@ use native.Mathlib.Decide.{dec_lt}
 use native.Mathlib.Omega.{arith}
 use lib.Dec.{ltb}
 use lib.IntN.{ℤ}
-use borrow.Author.Tests.{ltb-true, ltb-false}
+use borrow.Author.Tests.{ltb-false}
 use Rattle.rules.specs.Word.{codeword, gather}
 use Rattle.rules.specs.Level.{nothing, best, level_cost, word_distance, least_word}
 use Rattle.rules.specs.Walk.{State, keep_best, walk_visits}
@@ -20,12 +20,12 @@ use Rattle.laws.specs.Code.Permitted.{permitted-lt}
 use Rattle.word.specs.declared.Word.{Word}
 use Rattle.word.specs.Words.{size_of, word_of}
 use Rattle.walk.specs.States.{kept_of, running_of, state_of}
+use Rattle.std.specs.Prelude.{Option, None, Some}
 use Rattle.tree.specs.Empty.{first_empty}
 use Rattle.tree.specs.Search.{search_answer}
 use Rattle.tree.specs.Reading.{decoded_of}
 use Rattle.walk.specs.declared.state.Walked.{Walked}
 use Rattle.walk.proofs.Keeping.{has_best, no_best}
-use Rattle.walk.proofs.Trying.{running_state, ended_state}
 
 -- none by a test that picks none or some: the test passed; some: it failed, and picked that
 test_none : (t : Bool) (x : State keep_best) → none ≡ cond t none (some x) → t ≡ true
@@ -51,7 +51,7 @@ kept_parts s p d e = go (dec_lt s.distance (2 ^ 32))
         let q : nothing ≡ best p d = sym (no_best s (omega arith)) ∙ e in
         let z : ◌≡◌ {A = ℕ} 0 1 = cc in absurd (omega arith)
 
-module _ (n mask folding allowance : ℕ) (levels : List ℤ) (end : Walked) where
+module _ (n mask folding allowance : ℕ) (levels : List ℤ) where
   -- the least word, its distance and the walk's total
   abbrev finished : State keep_best
   finished =
@@ -60,16 +60,16 @@ module _ (n mask folding allowance : ℕ) (levels : List ℤ) (end : Walked) whe
         visits = walk_visits n mask (level_cost levels) folding;
       }
 
-  -- what the walk ended with, within the allowance
-  abbrev pub Ends : Type 0
-  Ends = state_of allowance end ≡ cond (ltb allowance (walk_visits n mask (level_cost levels) folding)) none (some finished)
+  -- what the walk ended with
+  abbrev pub Ends : Option Walked → Type 0
+  Ends end = state_of end ≡ cond (ltb allowance (walk_visits n mask (level_cost levels) folding)) none (some finished)
 
-  pub used_up : Ends → ltb allowance end.visits ≡ true → ltb allowance (walk_visits n mask (level_cost levels) folding) ≡ true
-  used_up ends off = test_none _ finished (sym (ended_state allowance end (ltb-true _ _ off)) ∙ ends)
+  pub used_up : Ends None → ltb allowance (walk_visits n mask (level_cost levels) folding) ≡ true
+  used_up ends = test_none _ finished ends
 
-  module _ (ends : Ends) (on : ltb allowance end.visits ≡ false) where
+  module _ (end : Walked) (ends : Ends (Some end)) where
     parts : (ltb allowance (walk_visits n mask (level_cost levels) folding) ≡ false) × (running_of end ≡ finished)
-    parts = test_some _ finished (running_of end) (sym (running_state allowance end (ltb-false _ _ on)) ∙ ends)
+    parts = test_some _ finished (running_of end) ends
 
     pub enough : ltb allowance (walk_visits n mask (level_cost levels) folding) ≡ false
     enough = parts.0
@@ -77,12 +77,15 @@ module _ (n mask folding allowance : ℕ) (levels : List ℤ) (end : Walked) whe
     kept : Kept end (word_distance n (level_cost levels) (least_word n mask (level_cost levels))) (least_word n mask (level_cost levels))
     kept = kept_parts end _ _ (ap (λ (s : State keep_best). s.kept) parts.1)
 
+    visited : end.visits ≡ walk_visits n mask (level_cost levels) folding
+    visited = ap (λ (s : State keep_best). s.visits) parts.1
+
     -- the distance and the visits fit their fields
     pub distance_fits : end.distance < 2 ^ 32
     distance_fits = kept.small
 
     pub visits_fit : allowance < 2 ^ 32 → end.visits < 2 ^ 32
-    visits_fit h = omega (arith, h, ltb-false allowance end.visits on)
+    visits_fit h = omega (arith, h, visited, ltb-false allowance (walk_visits n mask (level_cost levels) folding) enough)
 
     -- the decoding's fields
     pub found_right : n ≤ largest → (message x : Word) → word_of message ≡ gather (size_of n) mask (word_of end.word) → word_of x ≡ codeword largest (word_of end.word)
@@ -96,8 +99,7 @@ module _ (n mask folding allowance : ℕ) (levels : List ℤ) (end : Walked) whe
         is_code ∙ ap (codeword largest) kept.word
         ∙ codeword_longer n largest d small (permitted-lt n mask d (least_word_least n mask (level_cost levels)).allowed)
         in
-        let v : end.visits ≡ walk_visits n mask (level_cost levels) folding = ap (λ (s : State keep_best). s.visits) parts.1 in
-        λ i. record { message = m i; d = kept.word i; x = c i; distance = kept.distance i; visits = v i }
+        λ i. record { message = m i; d = kept.word i; x = c i; distance = kept.distance i; visits = visited i }
 
 -- the three answers of a search
 module _ (n mask folding allowance : ℕ) (levels : List ℤ) where

@@ -31,12 +31,12 @@ use Rattle.laws.specs.Numbers.SortedLists.{mem_get_d}
 use Rattle.laws.specs.Rows.SortedRows.{row_of, row-length, row-at, row_cong, entry_parts}
 use Rattle.laws.specs.Walk.Allowance.{walk_in, walk_cong}
 use Rattle.word.specs.declared.Word.{Word}
-use Rattle.word.specs.Words.{word_at}
 use Rattle.groups.specs.Seating.{Seated}
 use Rattle.groups.specs.Grouping.{Grouped, Covered, Shut, Changes}
 use Rattle.rows.specs.Table.{entry_at, row_at}
 use Rattle.tree.specs.Slots.{Levelled, Ranked, seat_level}
-use Rattle.walk.specs.Nodes.{Tabled, row_candidates, most, covered_in, shut_in, near_in}
+use Rattle.walk.specs.Nodes.{Tabled, row_candidates, most}
+use Rattle.walk.specs.declared.Walk.{Walk}
 use Rattle.walk.specs.States.{empty}
 use Rattle.tree.specs.Search.{Searchable}
 use Rattle.groups.specs.declared.Tree.{Tree}
@@ -56,7 +56,7 @@ module _ {levels : List ℤ} {g : Tree} (grouped : Grouped g) (given : Searchabl
             λ t h. rw (zero-add t, index_at seated t (rw (all_indices grouped) at h)) (given.ranged _ (seat_below g.n g.folding given.fits t (rw (all_indices grouped) at h)));
       }
 
-  module _ (table : List (List ℕ)) (tables : List (List Word)) (ranked : Ranked levels index g.groups g.size table (near_in tables)) where
+  module _ (table : List (List ℕ)) (near : List ℕ) (ranked : Ranked levels index g.groups g.size table near) where
     -- a seat of group k is a seat
     inside : (k t : ℕ) → k < g.groups → t < g.size → k * g.size + t < g.groups * g.size
     inside k t hk ht = omega (arith, mul-le-mul_right g.size hk, suc-mul k g.size)
@@ -76,7 +76,7 @@ module _ {levels : List ℤ} {g : Tree} (grouped : Grouped g) (given : Searchabl
     more-is k t b hk ht = ap (λ (z : ℤ). excess z b) (level_is k t hk ht)
 
     -- what the nearer bits of group k cost
-    near_is : (k : ℕ) → k < g.groups → word_at (near_in tables) k ≡ sum_below g.size (λ t. nearest (own k t))
+    near_is : (k : ℕ) → k < g.groups → get_or near k 0 ≡ sum_below g.size (λ t. nearest (own k t))
     near_is k hk = ranked.sums k hk ∙ sum_cong g.size (λ t ht. ap nearest (level_is k t hk ht))
 
     abbrev row : ℕ → List ℕ
@@ -94,11 +94,11 @@ module _ {levels : List ℤ} {g : Tree} (grouped : Grouped g) (given : Searchabl
 
     -- its branch is what the slots cost at that pattern, so it is bounded
     bounded : (k j : ℕ) → k < g.groups → j < 2 ^ g.size
-        → branch_of (word_at (near_in tables) k) (entry_at table g.size k j) ≤ g.size * most
+        → branch_of (get_or near k 0) (entry_at table g.size k j) ≤ g.size * most
     bounded k j hk hj =
         let r = entry_of k j hk hj in
         let cost : ℕ → ℕ = λ t. nearest (own k t) + 1024 * more k t (bit r.0 t) in
-        let all : sum_below g.size cost ≡ branch_of (word_at (near_in tables) k) (entry_at table g.size k j) =
+        let all : sum_below g.size cost ≡ branch_of (get_or near k 0) (entry_at table g.size k j) =
         sum-add g.size (λ t. nearest (own k t)) (λ t. 1024 * more k t (bit r.0 t))
         ∙ rw (near_is k hk, r.2, sum-mul g.size 1024 (λ t. more k t (bit r.0 t)))
         in
@@ -111,9 +111,9 @@ module _ {levels : List ℤ} {g : Tree} (grouped : Grouped g) (given : Searchabl
             (given.ranged _ (seat_below g.n g.folding given.fits _ (rw (all_indices grouped) at (inside k t hk ht)))))
 
     -- what the walk asks of the tables
-    pub tables_right : (change : List Word) (mask : ℕ) → Changes change g → Covered (covered_in tables) g → Shut (shut_in tables) g mask
-        → Tabled table change tables g
-    tables_right change mask changes copied frozen =
+    pub tables_right : (change covered shut : List Word) (mask : ℕ) → Changes change g → Covered covered g → Shut shut g mask
+        → Tabled table change (record { tree = g; covered = covered; shut = shut; near = near })
+    tables_right change covered shut mask changes copied frozen =
         record {
           grouped = grouped;
           bounded = bounded;
@@ -145,40 +145,43 @@ module _ {levels : List ℤ} {g : Tree} (grouped : Grouped g) (given : Searchabl
         at j hj = each_at (entry_at table g.size k) 0 (2 ^ g.size) j hj ∙ ranked.rows k j group hj
 
     near_sums : (k : ℕ) → k < groups g.n g.folding
-        → word_at (near_in tables) k
+        → get_or near k 0
         ≡ sum_below (2 ^ ones g.folding) (λ t. nearest (level_at levels (seat_index g.n g.folding (k * 2 ^ ones g.folding + t))))
     near_sums k hk =
-        resized (λ (z : ℕ). word_at (near_in tables) k ≡ sum_below z (λ t. nearest (level_at levels (seat_index g.n g.folding (k * z + t)))))
+        resized (λ (z : ℕ). get_or near k 0 ≡ sum_below z (λ t. nearest (level_at levels (seat_index g.n g.folding (k * z + t)))))
         (near_is k (rw grouped.all hk))
 
-    module _ (mask allowance : ℕ) (frozen : Shut (shut_in tables) g mask) where
+    module _ (covered shut : List Word) (mask : ℕ) (frozen : Shut shut g mask) where
+      -- what the walk reads
+      abbrev walk : Walk
+      walk = record { tree = g; covered = covered; shut = shut; near = near }
+
       abbrev seated_rows : ℕ → ℕ → List Candidate
-      seated_rows = seated_candidates g.n mask g.folding (λ k. word_at (near_in tables) k) (row_at table g.size)
+      seated_rows = seated_candidates g.n mask g.folding (λ k. get_or near k 0) (row_at table g.size)
 
       -- at each group the candidates are those of the mask
-      same_candidates : (k d : ℕ) → k < g.groups → row_candidates table tables g k d ≡ seated_rows k d
+      same_candidates : (k d : ℕ) → k < g.groups → row_candidates table walk k d ≡ seated_rows k d
       unfolding row_candidates seated_candidates
       same_candidates k d hk =
           let n = g.n in
           let folding = g.folding in
-          let near = word_at (near_in tables) k in
-          let block = frozen_block grouped (shut_in tables) mask frozen k hk in
-          ap (λ (b : ℕ). entry_candidates n folding g.size k near (block_of g.size k (codeword n (seat n folding d))) b (row_at table g.size k)) block
+          let block = frozen_block grouped shut mask frozen k hk in
+          ap (λ (b : ℕ). entry_candidates n folding g.size k (get_or near k 0) (block_of g.size k (codeword n (seat n folding d))) b (row_at table g.size k)) block
           ∙ ap
           (λ (z : ℕ).
-          entry_candidates n folding z k near (block_of z k (codeword n (seat n folding d))) (block_of z k (seat n folding mask)) (row_at table g.size k))
+          entry_candidates n folding z k (get_or near k 0) (block_of z k (codeword n (seat n folding d))) (block_of z k (seat n folding mask)) (row_at table g.size k))
           grouped.sized
 
       -- what the walk finds: nothing where its total passes the allowance, else the least word, its distance and the total
-      pub walked : walk_in keep_best allowance (row_candidates table tables g) g.groups 0 0 (some empty)
+      pub walked : (allowance : ℕ) → walk_in keep_best allowance (row_candidates table walk) g.groups 0 0 (some empty)
           ≡ cond (ltb allowance (walk_visits g.n mask (level_cost levels) g.folding)) none
           (some (record {
             kept = best (word_distance g.n (level_cost levels) (least_word g.n mask (level_cost levels))) (least_word g.n mask (level_cost levels));
             visits = walk_visits g.n mask (level_cost levels) g.folding;
           }))
-      walked =
+      walked allowance =
           walk_cong keep_best allowance _ _ g.groups same_candidates 0 0 (some empty)
           ∙ ap (λ (m : ℕ). walk_in keep_best allowance seated_rows m 0 0 (some empty)) grouped.all
           ∙ seated_least_in g.n mask (level_cost levels) (λ i. nearest (level_at levels i)) (λ i b. excess (level_at levels i) b)
-          (λ i b. cost_split (level_at levels i) b) g.folding (λ k. word_at (near_in tables) k) (row_at table g.size) given.fits given.few
+          (λ i b. cost_split (level_at levels i) b) g.folding (λ k. get_or near k 0) (row_at table g.size) given.fits given.few
           near_sums rows_sorted allowance

@@ -1,19 +1,15 @@
 -- `tree::slot::rows` meets its contract.
-use Rattle.tree.proofs.Giving.{small_none, ranked}
+use mathlib.Core.Path.{refl}
 use native.Mathlib.Omega.{arith}
 use Rattle.groups.proofs.Tabling.{shape}
+use Rattle.tree.proofs.Giving.{ranked}
 use Rattle.tree.proofs.slot.rows.Goals as goal
 
 pub gives-requires : goal.gives-requires
-gives-requires c =
-    let pre = c.requires in
-    record { grouped = (pre.0, pre.1); small_seats = (small_none, small_none, pre.2) }
+gives-requires c = record { levelled = c.requires.0; long = (refl, c.requires.1) }
 
 pub rows-requires : goal.rows-requires
-rows-requires c =
-    let given = c.gives.ensures in
-    let pre = c.requires in
-    (record { shape = shape pre.0; seats = omega (arith, pre.1.within) }, given.small_zero.small, given.small_one.small)
+rows-requires c = record { shape = shape c.args.layout.now.grouped; seats = omega (arith, c.requires.0.within) }
 
 pub returns : goal.returns
 returns c = ranked _ _ c.gives.ensures c.rows.ensures

@@ -1,5 +1,4 @@
 -- `Walk::node` calls itself one level down. The measure is the number of levels left; the loop's invariant is `Trying`.
-use mathlib.Core.Path.{◌≡◌}
 use Rattle.word.specs.Words.{word_of}
 use Rattle.walk.proofs.Trying.{Trying}
 use Rattle.walk.proofs.Walk.+node.Given as goal

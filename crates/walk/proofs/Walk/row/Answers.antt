@@ -1,5 +1,5 @@
 -- `Walk::row` meets its contract.
-use Rattle.walk.proofs.Packing.{entries_shifted, part_inside, part_fits, row_taken}
+use Rattle.walk.proofs.Packing.{entries_shifted, part_fits, row_taken}
 use Rattle.walk.proofs.Walk.row.Goals as goal
 
 pub part-requires : goal.part-requires
