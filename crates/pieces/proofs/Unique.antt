@@ -4,7 +4,7 @@ use Prim.Native.Nat.{ℕ}
 use mathlib.Core.List.{List}
 use Rattle.laws.specs.Answers.OneAnswer.{OneResult, OneOutcome, one_answer}
 use Rattle.pieces.specs.Pieces.{one_piece}
-use Rattle.pieces.proofs.size.Reads as size
+use Rattle.pieces.proofs.Program.size.Reads as size
 use Rattle.pieces.proofs.write.Reads as write
 
 pub size_unique : OneResult size.Learnt

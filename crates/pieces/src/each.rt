@@ -7,17 +7,10 @@ ghost use Rattle.refusal.specs.Number.{number_of};
 ghost use Rattle.text.specs.Within.{Within};
 ghost use Rattle.pieces.specs.Programs.{shown_of, said_of, longest_refusal, longest_shown, longest_said};
 
-use crate::Program;
+use crate::{Ends, Program};
 use record::RECORD_BYTES;
 use refusal::Refusal;
 use request::Asked;
-
-// Where what was put ends, in each of the two buffers.
-#[derive(Clone, Copy)]
-pub(crate) struct Ends {
-    pub out: usize,
-    pub said: usize,
-}
 
 // The number of a refusal, in a line.
 fn put_refusal(said: &mut [u8], at: usize, refusal: Refusal) -> usize

@@ -1,54 +1,46 @@
--- `pieces::write` meets its contract. Invariant: what is written for the records before `from` is put, in both buffers.
-use Prim.Native.Nat.{ℕ}
+-- `pieces::write` meets its contract. Invariant: what is written for the records that came off is put, in both buffers.
 use mathlib.Core.Path.{◌≡◌, refl, sym, ◌∙◌}
 use mathlib.Core.Bool.{true≢false}
 use native.Mathlib.Omega.{arith}
-use Rattle.text.specs.Puts.{put-length}
-use Rattle.pieces.specs.declared.Written.TheVariants.{Bytes, NoRoom}
-use Rattle.pieces.specs.Programs.{size-some}
-use Rattle.pieces.proofs.Passed.{passed_none, passed_room, passed_next, passed_all, passed_stopped}
+use Rattle.std.proofs.Common.{inl, inr, rules}
+use Rattle.pieces.specs.Programs.{size_of}
+use Rattle.pieces.proofs.Passed.{passed_none, passed_room, passed_next, passed_all}
+use Rattle.pieces.proofs.Through.{Cut}
 use Rattle.pieces.proofs.write.Goals as goal
-
--- no room is not a number of bytes
-no_bytes : {v w : ℕ} → NoRoom ≡ Bytes v w → ◌≡◌ {A = ℕ} 0 1
-no_bytes e = cc
 
 pub returns-then-not-has_room : goal.returns-then-not-has_room
 returns-then-not-has_room c =
     record {
       small = λ no. (refl, refl, refl);
       wide = λ room. absurd (true≢false (sym room ∙ sym c.has_room.ensures ∙ c.if-not-has_room.true));
-      fits = λ v w e. absurd (omega (arith, no_bytes e));
+      fits = tt;
     }
 
-pub loop-from-init : goal.loop-from-init
-loop-from-init c = passed_none _ _ _ _ _ (sym c.has_room.ensures ∙ c.if-not-has_room.false)
-
-pub shape_of-out-then-k-ge-MOST_RECORDS : goal.shape_of-out-then-k-ge-MOST_RECORDS
-shape_of-out-then-k-ge-MOST_RECORDS c = put-length c.loop-from.invariant.shown.put
-
-pub shape_of-said-then-k-ge-MOST_RECORDS : goal.shape_of-said-then-k-ge-MOST_RECORDS
-shape_of-said-then-k-ge-MOST_RECORDS c = put-length c.loop-from.invariant.told.put
-
-pub returns-then-k-ge-MOST_RECORDS : goal.returns-then-k-ge-MOST_RECORDS
-returns-then-k-ge-MOST_RECORDS c = passed_stopped _ _ _ _ _ c.loop-from.invariant (omega arith)
+pub loop-record-init : goal.loop-record-init
+loop-record-init c =
+    let rest : c.into_iter-record-iterator.result.a.rest.now ≡ c.args.bytes.now = search rules in
+    let start : c.into_iter-record-iterator.result.b.start ≡ c.args.number = search rules in
+    (search rules, search rules, rw (rest, start) (passed_none _ _ _ _ _ (sym c.has_room.ensures ∙ c.if-not-has_room.false)))
 
 pub put-ends-requires : goal.put-ends-requires
-put-ends-requires c = passed_room _ _ _ _ _ c.loop-from.invariant (omega arith)
+put-ends-requires c = passed_room _ _ _ _ _ c.loop-record.invariant.2 c.in-Some.ensures.steps.0.1.2
 
-pub loop-from-smaller : goal.loop-from-smaller
-loop-from-smaller c = omega (arith, c.end_of-end.ensures, size-some c.args.program)
-
-pub loop-from-preserved : goal.loop-from-preserved
-loop-from-preserved c =
-    let put = c.put-ends.ensures in
-    passed_next _ _ _ _ _ c.loop-from.invariant c.end_of-end.ensures (omega arith) (omega arith) put.shown put.told
-
-pub shape_of-out : goal.shape_of-out
-shape_of-out c = put-length c.loop-from.invariant.shown.put
-
-pub shape_of-said : goal.shape_of-said
-shape_of-said c = put-length c.loop-from.invariant.told.put
+pub loop-record-preserved : goal.loop-record-preserved
+loop-record-preserved c =
+    let state = c.loop-record.invariant in
+    let next = c.in-Some.ensures.steps in
+    let cut : Cut (size_of c.args.program) c.loop-record.record-iterator.a.rest.now c.in-Some.record.now c.next.new.self.a.rest.now =
+    record { parts = next.0.1.0; long = rw state.0 at next.0.1.1; some = next.0.1.2 }
+    in (
+      next.0.0 ∙ state.0,
+      next.1.0 ∙ state.1,
+      rw next.1.1.2 (passed_next _ _ _ _ _ state.2 cut (omega arith) (rw next.1.1.1 at c.put-ends.ensures.shown) (rw next.1.1.1 at c.put-ends.ensures.told)),
+    )
 
 pub returns : goal.returns
-returns c = passed_all _ _ _ _ _ c.loop-from.invariant (omega arith)
+returns c =
+    let state = c.loop-record.invariant in
+    elim c.in-None.ensures.steps [
+      | inl ended ↦ passed_all _ _ _ _ _ state.2 (inl ended.1.1.0)
+      | inr ended ↦ passed_all _ _ _ _ _ state.2 (inr (omega (arith, ended.1.1.0, state.1)))
+    ]
