@@ -6,26 +6,31 @@ use std::alloc::Global;
 use std::io;
 use std::io::{ErrorKind, Read, Write};
 
-// How many bytes were read, and the failure, if reading stopped because it failed.
+// A call of the system that failed, with the system's reason.
+#[derive(Clone, Copy)]
+pub enum Failure {
+    NotRead(io::Error),
+    NotWritten(io::Error),
+}
+
+// How many bytes were read, and the failure, if reading stopped because it failed. No Result: both stand side by side, since what was
+// read before a failure counts.
 #[derive(Clone, Copy)]
 pub struct Got {
     pub len: usize,
     pub failure: Option<io::Error>,
 }
 
-// Reads until there are so many bytes, the input ends or a read fails.
-pub fn fill<R: Read>(input: &mut R, bytes: &mut [u8], most: usize) -> Got
-    requires { most ≤ length bytes.old }
-    ensures in_bounds { result.len ≤ most }
+// Reads until the bytes are full, the input ends or a read fails.
+pub fn fill<R: Read>(input: &mut R, bytes: &mut [u8]) -> Got
+    ensures in_bounds { result.len ≤ length bytes.old }
     ensures read { Consumes (R.remaining input.old) (R.remaining input.new) (take result.len bytes.new) }
-    ensures end { result.len < most → IsNone result.failure → IsAtEnd (R.remaining input.new) }
+    ensures end { result.len < length bytes.old → IsNone result.failure → IsAtEnd (R.remaining input.new) }
 {
     let mut len = 0;
-    while len < most {
-        match input.read(&mut bytes[len..most]) {
-            Ok(0) => {
-                return Got { len, failure: None };
-            }
+    while len < bytes.len() {
+        match input.read(&mut bytes[len..]) {
+            Ok(0) => break,
             Ok(more) => {
                 len += more;
             }
@@ -57,10 +62,8 @@ pub fn put<W: Write>(output: &mut W, bytes: &[u8]) -> io::Result<()>
 
 // The system's reason: all of a failure's text but the error's number, which stands behind it.
 fn reason(text: &str) -> &str {
-    match text.split_once(" (os error ") {
-        Some((reason, _)) => reason,
-        None => text,
-    }
+    text.split_once(" (os error ")
+        .map_or(text, |(reason, _)| reason)
 }
 
 // Says in a line which program could not do what, and the system's reason.
@@ -81,14 +84,13 @@ fn say(
     }
 }
 
-// Says on standard error, in a line, which program could not read, and the system's reason.
-pub fn not_read(error: &mut impl Write, alloc: Global, name: &[u8], failure: io::Error) {
-    let _ = say(error, alloc, name, "read standard input", failure);
-}
-
-// The same of a program that could not write, but not where the reader has gone away: who closes a pipe wants no more.
-pub fn not_written(error: &mut impl Write, alloc: Global, name: &[u8], failure: io::Error) {
-    if failure.kind() != ErrorKind::BrokenPipe {
-        let _ = say(error, alloc, name, "write standard output", failure);
-    }
+// Says on standard error, in a line, which program could not read or write, and the system's reason. Where the reader of what was
+// to be written has gone away, nothing is said: who closes a pipe wants no more.
+pub fn report(error: &mut impl Write, alloc: Global, name: &[u8], failure: Failure) {
+    let (what, failure) = match failure {
+        Failure::NotRead(failure) => ("read standard input", failure),
+        Failure::NotWritten(failure) if failure.kind() == ErrorKind::BrokenPipe => return,
+        Failure::NotWritten(failure) => ("write standard output", failure),
+    };
+    let _ = say(error, alloc, name, what, failure);
 }

@@ -5,9 +5,9 @@ ghost use Rattle.rules.specs.Text.{most_records};
 ghost use Rattle.laws.specs.Answers.Pieces.{piece_records, piece_bytes, taken_of};
 ghost use Rattle.pieces.specs.Programs.{size_of, shown_from, said_from};
 ghost use Rattle.text.specs.Puts.{Put};
-ghost use Rattle.stream.specs.Pieces.{most_room, most_said, next_piece};
+ghost use Rattle.stream.specs.Pieces.{next_piece};
 
-use pieces::{MOST_RECORDS, Program, REFUSAL_BYTES, Written};
+use pieces::{Ends, MOST_RECORDS, Program, REFUSAL_BYTES};
 use record::RECORD_BYTES;
 
 // How many records a piece has at the most.
@@ -20,79 +20,73 @@ pub const ROOM: usize = (RECORDS as usize + 1) * RECORD_BYTES;
 
 pub const SAID: usize = (RECORDS as usize + 1) * REFUSAL_BYTES;
 
-// Where what is written ends, in each of the two buffers.
+// The bytes of a piece, and what is written for them to standard output and to standard error.
+#[derive(Drop)]
+pub struct Buffers {
+    pub bytes: [u8; BYTES],
+    pub out: [u8; ROOM],
+    pub said: [u8; SAID],
+}
+
+// A piece of a program's input, by the number of its first record.
 #[derive(Clone, Copy)]
-pub struct Ends {
-    pub out: usize,
-    pub said: usize,
+pub struct Piece {
+    pub program: Program,
+    pub number: u32,
 }
 
-// The number of the next piece's first record, or that there is no next piece.
-#[derive(Clone, Copy)]
-pub enum Next {
-    Piece(u32),
-    End,
-}
-
-// How many records the piece that begins with this number may have, no more than may still be read.
-fn records(number: u32) -> u32
-    ensures { result ≡ min piece_records (most_records - number) }
-{
-    let left = MOST_RECORDS - number;
-    if left < RECORDS { left } else { RECORDS }
-}
-
-// How many bytes it may have.
-pub fn bytes(program: Program, number: u32) -> usize
-    ensures { result ≡ piece_bytes (size_of program) number }
-{
-    records(number) as usize * pieces::size(program)
-}
-
-// How many of the bytes that were got count: after a failed read those of whole records, else all of them.
-pub fn taken(program: Program, got: usize, failed: bool) -> usize
-    ensures { result ≡ taken_of (size_of program) failed got }
-{
-    if failed {
-        let size = pieces::size(program);
-        return got / size * size;
+impl Piece {
+    // How many records it may have, no more than may still be read.
+    fn records(self) -> u32
+        ensures { result ≡ min piece_records (most_records - self.number) }
+    {
+        RECORDS.min(MOST_RECORDS - self.number)
     }
-    got
-}
 
-// What the program writes for the bytes of a piece that count, at the front of buffers that have room for that of a whole piece.
-pub fn written(
-    program: Program,
-    bytes: &[u8],
-    taken: usize,
-    number: u32,
-    out: &mut [u8],
-    said: &mut [u8],
-) -> Ends
-    requires { (taken ≤ length bytes.now) × (taken ≤ piece_records * size_of program) × (most_room ≤ length out.old) × (most_said ≤ length said.old) }
-    ensures shown { Put out.old 0 (shown_from program number (take taken bytes.now)) result.out out.new }
-    ensures told { Put said.old 0 (said_from program number (take taken bytes.now)) result.said said.new }
-    ensures within { (result.out ≤ length out.old) × (result.said ≤ length said.old) }
-{
-    match pieces::write(program, &bytes[..taken], number, out, said) {
-        Written::Bytes(shown, told) => Ends {
-            out: shown,
-            said: told,
-        },
-        Written::NoRoom => Ends { out: 0, said: 0 },
+    // How many bytes it may have.
+    pub fn bytes(self) -> usize
+        ensures { result ≡ piece_bytes (size_of self.program) self.number }
+    {
+        self.records() as usize * self.program.size()
     }
-}
 
-// The piece after the one that begins with this number and of which so many bytes were got: there is one after a full piece,
-// unless no more records may be read.
-pub fn after(program: Program, number: u32, got: usize) -> Next
-    ensures { result ≡ next_piece program number got }
-{
-    if got < bytes(program, number) {
-        return Next::End;
+    // How many of the bytes that were got count: after a failed read those of whole records, else all of them.
+    pub fn taken(self, got: usize, failed: bool) -> usize
+        ensures { result ≡ taken_of (size_of self.program) failed got }
+    {
+        if failed {
+            let size = self.program.size();
+            return got / size * size;
+        }
+        got
     }
-    if MOST_RECORDS - number <= RECORDS {
-        return Next::End;
+
+    // What the program writes for its bytes that count, at the front of buffers that have room for that of a whole piece.
+    pub fn written(self, taken: usize, buffers: &mut Buffers) -> Ends
+        requires { taken ≤ piece_records * size_of self.program }
+        ensures bytes { buffers.new.bytes ≡ buffers.old.bytes }
+        ensures shown { Put buffers.old.out 0 (shown_from self.program self.number (take taken buffers.old.bytes)) result.out buffers.new.out }
+        ensures told { Put buffers.old.said 0 (said_from self.program self.number (take taken buffers.old.bytes)) result.said buffers.new.said }
+        ensures within { (result.out ≤ length buffers.old.out) × (result.said ≤ length buffers.old.said) }
+    {
+        pieces::write(
+            self.program,
+            &buffers.bytes[..taken],
+            self.number,
+            &mut buffers.out,
+            &mut buffers.said,
+        )
+        .unwrap()
     }
-    Next::Piece(number + RECORDS)
+
+    // The number of the next piece, of this one so many bytes were got: there is one after a full piece, unless no more records may
+    // be read.
+    pub fn after(self, got: usize) -> Option<u32>
+        ensures { result ≡ next_piece self.program self.number got }
+    {
+        if got < self.bytes() || MOST_RECORDS - self.number <= RECORDS {
+            return None;
+        }
+        Some(self.number + RECORDS)
+    }
 }
