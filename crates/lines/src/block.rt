@@ -3,23 +3,17 @@ ghost use Rattle.std.specs.Prelude.{◌≡◌};
 ghost use Rattle.rules.specs.Record.{record_answer};
 ghost use Rattle.tree.specs.Reading.{answer_of};
 
-use record::{Verdict, read};
+use refusal::Refusal;
+use tree::Decoded;
 
 // What a record answers: 13, 1, 12, 3, 4, 5, 6, 7, 8, or the finished decoding.
-pub fn decode(bytes: &[u8]) -> tree::Answer
+pub fn decode(bytes: &[u8]) -> Result<Decoded, Refusal>
     ensures { answer_of result ≡ record_answer bytes.now }
 {
-    let record = read(bytes);
-    let verdict = record.verdict;
-    if let Verdict::Refused(refusal) = verdict {
-        return tree::Answer::Refused(refusal);
-    }
-    let fields = record.fields;
-    let levels = fields.levels;
-    let slots = word::slots(fields.n);
+    let fields = record::read(bytes)?;
     tree::decode(
         fields.n,
-        &levels[..slots],
+        &fields.levels[..word::slots(fields.n)],
         fields.mask,
         fields.folding,
         fields.allowance,

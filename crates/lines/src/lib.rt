@@ -12,20 +12,20 @@ ghost use Rattle.lines.specs.Lines.{longest};
 
 use answers::{put_found, put_refused};
 use block::decode;
+use refusal::Refusal;
+use tree::Decoded;
 
 // How many bytes the longest line has.
 pub const LINE_BYTES: usize = 56;
 
 // The line of an answer.
-fn put_answer(out: &mut [u8], at: usize, number: u32, answer: tree::Answer) -> usize
+fn put_answer(out: &mut [u8], at: usize, number: u32, answer: Result<Decoded, Refusal>) -> usize
     requires { at + longest ≤ length out.old }
     ensures { Within longest out.old at (line number (answer_of answer)) result out.new }
 {
     match answer {
-        tree::Answer::Found(found) => {
-            put_found(out, at, number, found.message, found.distance, found.visits)
-        }
-        tree::Answer::Refused(refusal) => put_refused(out, at, number, refusal),
+        Ok(found) => put_found(out, at, number, found),
+        Err(refusal) => put_refused(out, at, number, refusal),
     }
 }
 

@@ -1,4 +1,6 @@
 // What a program writes for one record: to standard output, and to standard error, each put into its buffer behind what stands there.
+// The buffers and their ends go along as parameters: a struct that held the lent buffers would owe a clause more in each method, that
+// it still holds the same ones, and is no plainer.
 ghost use Rattle.std.specs.Prelude.{◌++◌, ◌+◌, ◌≤◌, length};
 ghost use Rattle.rules.specs.Record.{record_bytes};
 ghost use Rattle.rules.specs.Text.{decimal, line_end};
@@ -10,14 +12,13 @@ ghost use Rattle.pieces.specs.Programs.{shown_of, said_of, longest_refusal, long
 use crate::{Ends, Program};
 use record::RECORD_BYTES;
 use refusal::Refusal;
-use request::Asked;
 
 // The number of a refusal, in a line.
 fn put_refusal(said: &mut [u8], at: usize, refusal: Refusal) -> usize
     requires { at + longest_refusal ≤ length said.old }
     ensures { Within longest_refusal said.old at (decimal (number_of refusal) ++ line_end) result said.new }
 {
-    let at = text::decimal(said, at, refusal::number(refusal) as u64);
+    let at = text::decimal(said, at, refusal.number() as u64);
     text::bytes(said, at, b"\n")
 }
 
@@ -28,17 +29,16 @@ fn make(bytes: &[u8], out: &mut [u8], said: &mut [u8], ends: Ends) -> Ends
     ensures told { Within longest_refusal said.old ends.said (refusal_said (request_answer bytes.now)) result.said said.new }
 {
     match request::read(bytes) {
-        Asked::Request(request) => {
-            let at = ends.out;
-            request::written::write(request, &mut out[at..]);
+        Ok(request) => {
+            request::written::write(request, &mut out[ends.out..]).unwrap();
             Ends {
-                out: at + RECORD_BYTES,
-                said: ends.said,
+                out: ends.out + RECORD_BYTES,
+                ..ends
             }
         }
-        Asked::Refused(refusal) => Ends {
-            out: ends.out,
+        Err(refusal) => Ends {
             said: put_refusal(said, ends.said, refusal),
+            ..ends
         },
     }
 }
@@ -59,7 +59,7 @@ pub(crate) fn put(
     match program {
         Program::Blocks => Ends {
             out: lines::put(out, ends.out, number, bytes),
-            said: ends.said,
+            ..ends
         },
         Program::Make => make(bytes, out, said, ends),
     }
