@@ -1,7 +1,7 @@
 // Four rows side by side. Merging a row is one chain of steps, each of which waits for the one before. The rows of four groups
 // are merged in step, so that a step of one need not wait for those of the others. Each has a lane of the table, `entries`
 // places long, and no lane crosses a row of the table.
-ghost use Rattle.std.specs.Prelude.{ℕ, ◌+◌, ◌-◌, ◌^◌, ◌<◌, ◌≤◌};
+ghost use Rattle.std.specs.Prelude.{◌≡◌, ℕ, ◌+◌, ◌-◌, ◌*◌, ◌^◌, ◌<◌, ◌≤◌};
 ghost use Rattle.rows.specs.Cells.{cell, Shaped, Room};
 ghost use Rattle.rows.specs.Lanes.{Turned, Lanes, Merged, Completed};
 
@@ -25,26 +25,6 @@ fn turn(from: &Table, to: &mut Table, start: usize, t: usize, a: usize, added: E
     a + usize::from(first)
 }
 
-// The lower halves of the rows with one slot more: in each lane the first m entries once with each bit's own added.
-fn merge_lanes(
-    from: &Table,
-    to: &mut Table,
-    first: usize,
-    entries: usize,
-    m: usize,
-    added: &[Entries; 4],
-)
-    requires { Lanes from.now first entries m added.now × Shaped to.old }
-    ensures { Merged from.now first entries m added.now to.old to.new m }
-{
-    let mut taken = [0; 4];
-    for t in 0..m {
-        for (k, a) in taken.iter_mut().enumerate() {
-            *a = turn(from, to, first + k * entries, t, *a, added[k]);
-        }
-    }
-}
-
 // The upper half of a lane. A row is its own mirror image: an entry and the one as far from the other end add up to one sum,
 // since their patterns are each other's opposite. So the upper half is what is left of the lower half to that sum.
 fn mirror(to: &mut Table, start: usize, m: usize, both: u32)
@@ -57,22 +37,49 @@ fn mirror(to: &mut Table, start: usize, m: usize, both: u32)
     }
 }
 
-// The rows with one slot more, whole.
-pub(crate) fn double_lanes(
-    from: &Table,
-    to: &mut Table,
-    first: usize,
-    entries: usize,
-    m: usize,
-    added: &[Entries; 4],
-)
-    requires { Lanes from.now first entries m added.now × Shaped to.old }
-    ensures { Merged from.now first entries m added.now to.old to.new (m + m) }
-{
-    merge_lanes(from, to, first, entries, m, added);
-    for (k, own) in added.iter().enumerate() {
-        let start = first + k * entries;
-        let both = entry(from, start, 0) + entry(from, start, m - 1) + (own.zero + own.one);
-        mirror(to, start, m, both);
+// Four lanes from `first` on, in each a row of m entries, and what the bits of its next slot add.
+#[derive(Drop)]
+pub(crate) struct FourLanes {
+    pub(crate) first: usize,
+    pub(crate) entries: usize,
+    pub(crate) m: usize,
+    pub(crate) added: [Entries; 4],
+}
+
+impl FourLanes {
+    // Where lane k begins.
+    fn start(&self, k: usize) -> usize
+        requires { self.now.first + k * self.now.entries < 2 ^ 64 }
+        ensures { result ≡ self.now.first + k * self.now.entries }
+    {
+        self.first + k * self.entries
+    }
+
+    // The lower halves of the rows with one slot more: in each lane the first m entries once with each bit's own added.
+    fn merge(&self, from: &Table, to: &mut Table)
+        requires { Lanes from.now self.now.first self.now.entries self.now.m self.now.added × Shaped to.old }
+        ensures { Merged from.now self.now.first self.now.entries self.now.m self.now.added to.old to.new self.now.m }
+    {
+        let mut taken = [0; 4];
+        for t in 0..self.m {
+            for (k, a) in taken.iter_mut().enumerate() {
+                *a = turn(from, to, self.start(k), t, *a, self.added[k]);
+            }
+        }
+    }
+
+    // The rows with one slot more, whole.
+    pub(crate) fn double(&self, from: &Table, to: &mut Table)
+        requires { Lanes from.now self.now.first self.now.entries self.now.m self.now.added × Shaped to.old }
+        ensures { Merged from.now self.now.first self.now.entries self.now.m self.now.added to.old to.new (self.now.m + self.now.m) }
+    {
+        self.merge(from, to);
+        for (k, own) in self.added.iter().enumerate() {
+            let start = self.start(k);
+            let both = entry(from, start, 0)
+                + entry(from, start, self.m - 1)
+                + (own.zero + own.one);
+            mirror(to, start, self.m, both);
+        }
     }
 }

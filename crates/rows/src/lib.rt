@@ -13,7 +13,7 @@ ghost use Rattle.rows.specs.Adding.{Sized, RowsRight};
 ghost use Rattle.rows.specs.Cells.{Shaped, Built, Filled};
 
 use crate::first::first_rows;
-use crate::lanes::double_lanes;
+use crate::lanes::FourLanes;
 pub use crate::seat::Added;
 use crate::seat::Entries;
 
@@ -44,7 +44,13 @@ fn add_slots(from: &Table, to: &mut Table, group: usize, size: usize, t: usize, 
         *own = seats[seat].entries(t);
     }
     let entries: usize = 1 << size;
-    double_lanes(from, to, group * entries, entries, 1 << t, &added);
+    let lanes = FourLanes {
+        first: group * entries,
+        entries,
+        m: 1 << t,
+        added,
+    };
+    lanes.double(from, to);
 }
 
 // The rows of four groups. The first two slots at once, then two a turn: from the table to the spare one and back.

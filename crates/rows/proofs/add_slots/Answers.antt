@@ -9,13 +9,13 @@ use Rattle.rows.proofs.add_slots.Goals as goal
 pub entries-requires : goal.entries-requires
 entries-requires c = omega (arith, c.requires.slots.0, size_small c.requires.slots.1)
 
-pub overflow_mul-group : goal.overflow_mul-group
-overflow_mul-group c =
+pub overflow_mul-lanes : goal.overflow_mul-lanes
+overflow_mul-lanes c =
     let g = c.requires.slots.1 in
     rw (entries_shifted g) (record { fits = omega (arith, (place g {k = c.args.group} (omega arith)).start) })
 
-pub double_lanes-requires : goal.double_lanes-requires
-double_lanes-requires c =
+pub double-requires : goal.double-requires
+double-requires c =
     let l = c.loop-k in
     let all : l.k ≡ 4 = omega arith in
     let g = c.requires.slots.1 in
@@ -28,4 +28,4 @@ returns c =
     let all : l.k ≡ 4 = omega arith in
     let g = c.requires.slots.1 in
     let m = power_shifted 64 c.args.t (omega (arith, c.requires.slots.0, size_small g)) in
-    rows_more c.requires.slots.0 g _ c.requires.tables.1 (rw all at l.invariant.1) (rw (entries_shifted g, m) at c.double_lanes.ensures)
+    rows_more c.requires.slots.0 g _ c.requires.tables.1 (rw all at l.invariant.1) (rw (entries_shifted g, m) at c.double.ensures)

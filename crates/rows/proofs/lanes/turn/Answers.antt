@@ -1,6 +1,6 @@
 -- `rows::lanes::turn` meets its contract.
 use Prim.Native.Nat.{ℕ, ◌+◌, min}
-use mathlib.Core.Path.{◌≡◌, refl, sym, ap, ◌∙◌}
+use mathlib.Core.Path.{◌≡◌, refl, ap, ◌∙◌}
 use mathlib.Core.Bool.{Bool, true, false, cond}
 use native.Mathlib.Omega.{arith}
 use lib.Dec.{ltb}
@@ -20,9 +20,8 @@ chosen x y true e = omega (arith, ltb-true x y e)
 chosen x y false e = omega (arith, ltb-false x y e)
 
 pub returns : goal.returns
-returns c =
-    (
-      rw (c.store.ensures, c.select_unpredictable.ensures, c.entry-2.ensures, c.entry.ensures)
+returns c = (
+  rw (c.store.ensures, c.select_unpredictable.ensures, c.entry-2.ensures, c.entry.ensures)
       (ap (put c.args.to.now (c.args.start + c.args.t)) (chosen _ _ _ refl)),
-      rw (c.entry-2.ensures, c.entry.ensures) at (ap (λ (n : ℕ). c.args.a + n) (c.from.ensures ∙ counts _)),
-    )
+  rw (c.entry-2.ensures, c.entry.ensures) at (ap (λ (n : ℕ). c.args.a + n) (c.from.ensures ∙ counts _)),
+)
