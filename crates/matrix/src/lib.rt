@@ -46,7 +46,7 @@ fn by_halves<F: Fn(u64) -> u64>(n: u32, map: F, w: u64) -> u64
 pub fn map(w: Word) -> Word
     ensures { word_of result ≡ codeword largest (word_of w) }
 {
-    // two bytes, and four
+    // The words of two bytes, and below those of four.
     let pair = |w: u64|
         requires { w < 2 ^ 2 ^ 4 }
         ensures { result ≡ codeword 4 w }
