@@ -16,7 +16,7 @@ use walk::Walk;
 use word::Word;
 
 // A finished decoding.
-#[derive(Clone, Copy)]
+#[derive(Clone, Copy, Debug, PartialEq, Eq)]
 pub struct Decoded {
     pub message: Word,
     pub d: Word,
