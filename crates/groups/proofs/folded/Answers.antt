@@ -12,15 +12,6 @@ use Rattle.groups.proofs.folded.Goals as goal
 size_is : (folding r : ℕ) → ones folding ≤ 3 → r ≡ ones folding → 1 * 2 ^ r % 2 ^ 64 ≡ 2 ^ ones folding
 size_is folding r few e = power_shifted 64 r (omega arith) ∙ ap (λ (f : ℕ). 2 ^ f) e
 
-pub overflow_cast-size : goal.overflow_cast-size
-overflow_cast-size c = omega (arith, c.folding_size.ensures, c.requires.2)
-
-pub overflow_shl-size : goal.overflow_shl-size
-overflow_shl-size c = omega (arith, c.folding_size.ensures, c.requires.2)
-
-pub nonzero_div-groups : goal.nonzero_div-groups
-nonzero_div-groups c = rw (size_is _ _ c.requires.2 c.folding_size.ensures) (pow_pos _)
-
 pub returns : goal.returns
 returns c =
     let given = c.requires in

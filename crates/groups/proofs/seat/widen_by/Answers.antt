@@ -21,12 +21,6 @@ use Rattle.groups.proofs.seat.widen_by.Goals.{then-folding-b, else-folding-b}
 pub loop-b-init : goal.loop-b-init
 loop-b-init c = widened_none _ _ _
 
-pub overflow_shr-folding : goal.overflow_shr-folding
-overflow_shr-folding c = omega (arith, c.requires.few)
-
-pub overflow_shl-bit : goal.overflow_shl-bit
-overflow_shl-bit c = omega (arith, c.requires.few)
-
 -- there is room for as many again
 room-behind : {l index : List ℕ} {m n folding wanted b many : ℕ} → WidensBy l m n folding wanted → Widened l m (has_bit folding wanted) b index many
     → b < n → bit folding b ≡ wanted → many + many ≤ length index
@@ -78,9 +72,6 @@ loop-b-preserved c =
           ∙ ap (widened (take c.loop-b.many c.loop-b.index)) (bit-shifted c.loop-b.b c.loop-b-test.true given.few)))
       | else-folding-b w ↦ rw (w.index-is, w.many-is) (widened_failing _ _ _ _ inv (ne_eqb _ _ w.if-folding-b.false))
     ]
-
-pub shape_of-index : goal.shape_of-index
-shape_of-index c = c.loop-b.invariant.same
 
 pub returns : goal.returns
 returns c =

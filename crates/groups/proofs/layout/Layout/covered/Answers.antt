@@ -15,13 +15,8 @@ bounds-self-m c = first_seat_fits c.args.self.now.grouped c.loop-m-test.true
 pub double-requires-clause-room : goal.double-requires-clause-room
 double-requires-clause-room c = room_behind c.args.self.now.grouped c.loop-m.invariant c.loop-m-test.true
 
-pub loop-m-smaller : goal.loop-m-smaller
-loop-m-smaller c = omega (arith, c.loop-m-test.true, some_done c.loop-m.invariant)
-
 pub loop-m-preserved : goal.loop-m-preserved
 loop-m-preserved c =
     let self = c.args.self.now in
     covering_next self.grouped c.loop-m.invariant c.loop-m-test.true self.seated c.double.auto.items c.double.ensures (λ w x made. search rules)
 
-pub returns : goal.returns
-returns c k h = c.loop-m.invariant.done k (omega (arith, c.loop-m-test.false))

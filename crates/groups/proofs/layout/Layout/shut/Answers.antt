@@ -9,9 +9,6 @@ use Rattle.word.specs.Tables.{stored_next}
 use Rattle.groups.proofs.Tabling.{few_groups, first_seat_fits, shut_here}
 use Rattle.groups.proofs.layout.Layout.shut.Goals as goal
 
-pub loop-k-init : goal.loop-k-init
-loop-k-init c = (refl, λ j h. absurd (omega arith))
-
 pub bounds-self-k : goal.bounds-self-k
 bounds-self-k c = first_seat_fits c.args.self.now.grouped c.loop-k-test.true
 
