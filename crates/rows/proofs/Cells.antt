@@ -1,11 +1,11 @@
 -- The cells of the table after a store, and after a row of stores.
 use Prim.Native.Nat.{ℕ, suc, ◌+◌, ◌/◌, ◌%◌, ◌≤◌, ◌<◌}
-use mathlib.Core.Path.{◌≡◌, refl, sym, ap, ◌∙◌}
+use mathlib.Core.Path.{◌≡◌, sym, ◌∙◌}
 use mathlib.Core.Logic.{inl, inr, ⊎_elim, ◌≢◌}
 use mathlib.Core.List.{List, [], ◌∷◌, ◌++◌}
 use native.Mathlib.Decide.{ℕ_discrete}
 use native.Mathlib.Omega.{arith}
-use lib.ListN.{length, get_or, set, replicate, length-set, length-append, get_or-replicate, get_or-append}
+use lib.ListN.{length, get_or, set, length-set, length-append, get_or-append}
 use lib.Seq.{get_or-set_same, get_or-set_other, get_or_at}
 use Rattle.rows.specs.Table.{rows_in_all, capacity}
 use Rattle.rows.specs.Cells.{cell, put, Shaped, Placed, Kept}
@@ -27,10 +27,6 @@ module _ (table : List (List ℕ)) (start i : ℕ) (l : start % 256 + i < 256) w
   pub put_at : (v : ℕ) → put table (start + i) v ≡ set table (start / 256) (set (get_or table (start / 256) []) (start % 256 + i) v)
   unfolding put
   put_at v = rw (row_of_lem, at_of)
-
--- a new table
-pub shaped_none : Shaped (replicate rows_in_all (replicate 256 0))
-shaped_none = record { rows = refl; entries = λ o l. ap length (get_or-replicate rows_in_all o (replicate 256 0) [] l) }
 
 module _ {table : List (List ℕ)} (s : Shaped table) (p v : ℕ) where
   -- the row that the place lies in
@@ -70,10 +66,6 @@ module _ {table : List (List ℕ)} (s : Shaped table) (p v : ℕ) where
 pub kept_more : (old : List (List ℕ)) {to : List (List ℕ)} {start : ℕ} → Shaped to → Kept old start to → (p v : ℕ) → start ≤ p → p < capacity
     → {new : List (List ℕ)} → new ≡ put to p v → Kept old start new
 kept_more old s k p v l inside e q h = rw e (put_other s p v inside q (omega arith) ∙ k q h)
-
--- nothing is stored yet
-pub placed_none : {old : List (List ℕ)} (start : ℕ) → Shaped old → Placed old start [] old
-placed_none start s = record { shaped = s; stored = λ i l. absurd (omega arith); same = λ p h. refl }
 
 -- one entry more
 pub placed_more : {old : List (List ℕ)} {start : ℕ} {row : List ℕ} {new : List (List ℕ)} → Placed old start row new

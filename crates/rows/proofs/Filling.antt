@@ -1,6 +1,6 @@
 -- The groups' rows in the table, group by group: each is stored behind those before it.
 use Prim.Native.Nat.{ℕ, ◌+◌, ◌*◌, ◌^◌, ◌≤◌, ◌<◌}
-use mathlib.Core.Path.{◌≡◌, refl, sym, ◌∙◌}
+use mathlib.Core.Path.{◌≡◌, sym, ◌∙◌}
 use mathlib.Core.Logic.{inl}
 use mathlib.Core.List.{List}
 use native.Mathlib.Nat.{suc-mul, mul-le-mul_right}
@@ -11,7 +11,7 @@ use lib.Pow.{pow_mono, pow_pos}
 use Rattle.laws.specs.Rows.SortedRows.{row_of, row-length}
 use Rattle.rows.specs.Adding.{Sized, adds, RowsRight}
 use Rattle.rows.specs.declared.seat.Added.{Added}
-use Rattle.rows.specs.Cells.{cell, Shaped, Room, Placed, Kept, Built, Filled}
+use Rattle.rows.specs.Cells.{cell, Room, Placed, Kept, Built, Filled}
 use Rattle.rows.proofs.Cells.{cell_at}
 use Rattle.rows.proofs.Places.{place}
 
@@ -25,10 +25,6 @@ place_room {size = size} g l few =
     let p = place g l in
     let some = pow_pos size in
     record { inside = omega (arith, p.start); edge = omega (arith, p.edge, pow_mono few) }
-
--- no row yet
-pub filled_none : {seats : List Added} (size t : ℕ) {first : ℕ} {old : List (List ℕ)} → Shaped old → Filled seats size t first first old old
-filled_none size t s = record { shaped = s; kept = λ p l. refl; built = λ k j l h. absurd (omega arith) }
 
 module _ {seats : List Added} {size t first last : ℕ} {old table : List (List ℕ)} where
   -- one row more
@@ -46,10 +42,6 @@ module _ {seats : List Added} {size t first last : ℕ} {old table : List (List 
       built k j low high l (no n) =
           let before : k < last = omega arith in
           r.same (k * 2 ^ size + j) (inl (omega (arith, place-before (2 ^ size) before, pow_mono few))) ∙ f.built k j low before l
-
-  -- what stands is stored, seen from now on
-  pub filled_now : Filled seats size t first last old table → Filled seats size t first last table table
-  filled_now f = record { shaped = f.shaped; kept = λ p l. refl; built = f.built }
 
   -- rows stored into a table that was kept so far
   pub filled_kept : Kept old (first * 2 ^ size) table → {new : List (List ℕ)} → Filled seats size t first last table new

@@ -1,21 +1,17 @@
 -- The upper half of each lane is what is left of its lower half to one sum: store by store, and lane by lane.
 use Prim.Native.Nat.{ℕ, ◌+◌, ◌*◌, ◌-◌, ◌≤◌, ◌<◌}
-use mathlib.Core.Path.{◌≡◌, refl, ap, ◌∙◌}
+use mathlib.Core.Path.{◌≡◌, ap, ◌∙◌}
 use mathlib.Core.Logic.{◌⊎◌, inl, inr, ⊎_elim}
 use mathlib.Core.List.{List}
 use native.Mathlib.Decide.{ℕ_discrete, dec_lt}
 use native.Mathlib.Omega.{arith}
 use lib.ListN.{get_or}
 use Rattle.rows.specs.Table.{capacity}
-use Rattle.rows.specs.Cells.{cell, put, Shaped}
+use Rattle.rows.specs.Cells.{cell, put}
 use Rattle.rows.specs.declared.seat.Entries.{Entries}
 use Rattle.rows.specs.Lanes.{Lanes, lane_doubled, lane_sum, Merged, Completed}
 use Rattle.rows.proofs.Cells.{put_same, put_other, put-shaped}
 use Rattle.rows.proofs.Filling.{place-before}
-
--- nothing is stored yet
-pub completed_none : {old : List (List ℕ)} (start m both : ℕ) → Shaped old → Completed old start m both old 0
-completed_none start m both s = record { shaped = s; upper = λ i l. absurd (omega arith); same = λ p h. refl }
 
 module _ {old : List (List ℕ)} {start m both : ℕ} {to : List (List ℕ)} {t : ℕ} (s : Completed old start m both to t) (l : t < m) where
   -- the lower half is as it was
@@ -45,27 +41,7 @@ pub record Mirroring (from : List (List ℕ)) (first entries m : ℕ) (added : L
   pub whole : (j i : ℕ) → j < k → i < m + m → cell to (first + j * entries + i) ≡ get_or (lane_doubled from first entries m added j) i 0
 
 module _ {from : List (List ℕ)} {first entries m : ℕ} {added : List Entries} {old to : List (List ℕ)} where
-  -- no upper half yet
-  pub mirroring_none : Merged from first entries m added old to m → Mirroring from first entries m added to to 0
-  mirroring_none h = record {
-    lower = record { shaped = h.shaped; kept = λ p l. refl; stored = h.stored };
-    whole = λ j i l. absurd (omega arith);
-  }
-
-  -- all of them
-  pub mirroring_all : {n k : ℕ} → Merged from first entries m added old to n → 4 ≤ k → {new : List (List ℕ)}
-      → Mirroring from first entries m added to new k → Merged from first entries m added old new (m + m)
-  mirroring_all h l s = record {
-    shaped = s.lower.shaped;
-    kept = λ p b. s.lower.kept p b ∙ h.kept p b;
-    stored = λ k i b e. s.whole k i (omega arith) e;
-  }
-
   module _ (lanes : Lanes from first entries m added) {k : ℕ} (h : k < 4) (s : Mirroring from first entries m added old to k) where
-    -- an entry of the lower half is not above the sum
-    pub sum_fits : (i : ℕ) → i < m → cell to (first + k * entries + i) ≤ lane_sum from first entries m added k
-    sum_fits i l = omega (arith, s.lower.stored k i h l, lanes.mirrored k i h l)
-
     -- one lane more
     pub mirroring_more : {new : List (List ℕ)} → Completed to (first + k * entries) m (lane_sum from first entries m added k) new m
         → Mirroring from first entries m added old new (k + 1)

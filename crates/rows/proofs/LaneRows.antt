@@ -4,10 +4,8 @@ use mathlib.Core.Path.{◌≡◌, sym, ap, ◌∙◌}
 use mathlib.Core.List.{List}
 use native.Mathlib.Nat.{two-pow-succ, add-mul, sub-zero}
 use native.Mathlib.Omega.{arith}
-use lib.ListN.{length, get_or, set}
+use lib.ListN.{get_or}
 use lib.Pow.{pow_pos, pow_mono}
-use lib.Seq.{get_or-set_same, get_or-set_other}
-use borrow.Author.Count.{below_more}
 use Rattle.laws.specs.Numbers.Each.{each_all}
 use Rattle.laws.specs.Numbers.SortedLists.{mem_get_d}
 use Rattle.laws.specs.Rows.SortedRows.{row_of, row-length, row_bound}
@@ -19,19 +17,6 @@ use Rattle.rows.specs.Cells.{cell, Built, Filled}
 use Rattle.rows.specs.Lanes.{none, lane, Lanes, lane_doubled, lane_sum, Merged, FourAdd}
 use Rattle.rows.proofs.Places.{size_small}
 use Rattle.rows.proofs.Filling.{place_room}
-
--- no group yet
-pub four_none : (seats : List Added) (group size t : ℕ) (added : List Entries) → FourAdd seats group size t added 0
-four_none seats group size t added = record { first = λ k h. absurd (omega arith); second = λ k h. absurd (omega arith) }
-
--- one group more
-pub four_more : {seats : List Added} {group size t : ℕ} {added : List Entries} {k : ℕ} → FourAdd seats group size t added k → k < length added
-    → {own : Entries} → own.zero ≡ (get_or seats ((group + k) * size + t) nothing).zero * 256
-    → own.one ≡ (get_or seats ((group + k) * size + t) nothing).one * 256 + 2 ^ t → FourAdd seats group size t (set added k own) (k + 1)
-four_more {added = added} {k = k} s h {own} ez eo = record {
-  first = below_more _ k (λ j l. rw (get_or-set_other added k j own none (omega arith)) (s.first j l)) (rw (get_or-set_same added k own none h) ez);
-  second = below_more _ k (λ j l. rw (get_or-set_other added k j own none (omega arith)) (s.second j l)) (rw (get_or-set_same added k own none h) eo);
-}
 
 module _ {seats : List Added} {group size t : ℕ} (few : t < size) (sized : Sized (group + 4) size) (from : List (List ℕ))
     (built : Built seats size t group (group + 4) from) {added : List Entries} (four : FourAdd seats group size t added 4) where

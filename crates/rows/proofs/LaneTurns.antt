@@ -1,21 +1,21 @@
 -- The loop that merges four lanes in step: a turn keeps its own lane, and every other one.
-use Prim.Native.Nat.{ℕ, ◌+◌, ◌*◌, ◌-◌, ◌^◌, ◌≤◌, ◌<◌, min}
-use mathlib.Core.Path.{◌≡◌, refl, sym, ap, ap₂, ◌∙◌}
+use Prim.Native.Nat.{ℕ, ◌+◌, ◌*◌, ◌-◌, ◌≤◌, ◌<◌, min}
+use mathlib.Core.Path.{◌≡◌, sym, ap, ap₂, ◌∙◌}
 use mathlib.Core.Logic.{◌≢◌}
 use mathlib.Core.Bool.{cond}
 use mathlib.Core.List.{List}
 use native.Mathlib.Decide.{ℕ_discrete, dec_lt}
 use native.Mathlib.Omega.{arith}
 use lib.Dec.{ltb}
-use lib.ListN.{length, get_or, set, length-set, replicate, get_or-replicate}
+use lib.ListN.{length, get_or, set, length-set}
 use lib.Seq.{get_or-set_same, get_or-set_other}
 use borrow.Author.Count.{below_more}
 use Rattle.laws.specs.Numbers.Each.{each-length, each_at}
 use Rattle.laws.specs.Rows.SortedRows.{doubled}
 use Rattle.rows.specs.Table.{capacity}
-use Rattle.rows.specs.Cells.{cell, put, Shaped, Room, Kept}
+use Rattle.rows.specs.Cells.{cell, put, Shaped, Kept}
 use Rattle.rows.specs.declared.seat.Entries.{Entries}
-use Rattle.rows.specs.Lanes.{none, lane, Turned, Lanes, Merged}
+use Rattle.rows.specs.Lanes.{none, lane, Turned, Lanes}
 use Rattle.rows.proofs.Cells.{put_same, put_other, put-shaped, kept_more}
 use Rattle.rows.proofs.Filling.{place-before}
 use Rattle.rows.proofs.Doubling.{Front, front_turn, one_or_none}
@@ -26,10 +26,6 @@ pub record Turning (from : List (List ℕ)) (start m x y : ℕ) (to : List (List
   pub some : a ≤ t
   pub front : Front (lane from start m) x y a (t - a)
   pub stored : (i : ℕ) → i < t → cell to (start + i) ≡ get_or (doubled x y (lane from start m)) i 0
-
--- no turn yet
-pub turning_none : (from : List (List ℕ)) (start m x y : ℕ) (to : List (List ℕ)) → Turning from start m x y to 0 0
-turning_none from start m x y to = record { met = omega arith; some = omega arith; front = refl; stored = λ i l. absurd (omega arith) }
 
 module _ {from : List (List ℕ)} {start m x y : ℕ} {to : List (List ℕ)} {t a : ℕ} (s : Turning from start m x y to t a) (shaped : Shaped to) where
   -- a turn keeps its lane
@@ -82,48 +78,8 @@ pub record InStep (from : List (List ℕ)) (first entries m : ℕ) (added : List
   pub before : (j : ℕ) → j < k → Turning from (first + j * entries) m (get_or added j none).zero (get_or added j none).one to (t + 1) (get_or taken j 0)
   pub behind : (j : ℕ) → k ≤ j → j < 4 → Turning from (first + j * entries) m (get_or added j none).zero (get_or added j none).one to t (get_or taken j 0)
 
--- no lane has had a turn
-pub step_none : (from : List (List ℕ)) (first entries m : ℕ) (added : List Entries) {to : List (List ℕ)} → Shaped to
-    → InStep from first entries m added to to 0 0 (replicate 4 0)
-step_none from first entries m added s = record {
-  long = refl;
-  shaped = s;
-  kept = λ p l. refl;
-  before = λ j l. absurd (omega arith);
-  behind = λ j l h. rw (get_or-replicate {A = ℕ} 4 j 0 0 h) (turning_none _ _ _ _ _ _);
-}
-
 module _ {from : List (List ℕ)} {first entries m : ℕ} {added : List Entries} (lanes : Lanes from first entries m added) {old to : List (List ℕ)} {t : ℕ} where
-  -- all lanes have had the turn: the next one begins
-  pub step_all : {taken : List ℕ} → InStep from first entries m added old to t 4 taken → InStep from first entries m added old to (t + 1) 0 taken
-  step_all s = record {
-    long = s.long;
-    shaped = s.shaped;
-    kept = s.kept;
-    before = λ j l. absurd (omega arith);
-    behind = λ j l h. s.before j h;
-  }
-
-  -- after m turns the lower halves are merged
-  pub steps_done : {taken : List ℕ} → InStep from first entries m added old to t 0 taken → m ≤ t → Merged from first entries m added old to m
-  steps_done s l = record {
-    shaped = s.shaped;
-    kept = s.kept;
-    stored = λ k i h e. (s.behind k (omega arith) h).stored i (omega arith);
-  }
-
   module _ (l : t < m) {k : ℕ} (h : k < 4) {taken : List ℕ} (s : InStep from first entries m added old to t k taken) where
-    -- what the turn of lane k asks
-    pub turn_ready : ((get_or taken k 0 ≤ t) × Room (first + k * entries) (t + 1))
-        × ((cell from (first + k * entries + get_or taken k 0) + (get_or added k none).zero < 2 ^ 32)
-        × (cell from (first + k * entries + (t - get_or taken k 0)) + (get_or added k none).one < 2 ^ 32))
-    turn_ready =
-        let p = lanes.place k h in
-        let less = (s.behind k (omega arith) h).some in (
-          (less, record { inside = p.inside; edge = omega (arith, p.edge, lanes.room) }),
-          (omega (arith, lanes.small k (get_or taken k 0) h (omega arith)), omega (arith, lanes.small k (t - get_or taken k 0) h (omega arith))),
-        )
-
     -- the place that it stores at
     inside : first + k * entries + t < capacity
     inside = let p = lanes.place k h in omega (arith, p.inside, p.edge, lanes.room)

@@ -20,19 +20,6 @@ module _ {groups size : ℕ} (g : Sized groups size) where
   place {k} l =
       by_size (λ (size : ℕ). groups * size ≤ 2 ^ largest → Place size k) (λ h. omega arith) (λ h. omega arith) (λ h. omega arith) (λ h. omega arith) g.shape g.seats
 
-  -- slot t of group k has a seat
-  pub seat-inside : {k t : ℕ} → k < groups → t < size → k * size + t < 2 ^ largest
-  seat-inside l h = omega (arith, (place l).seats)
-
-  -- there are no more groups than seats
-  pub groups_few : groups ≤ 2 ^ largest
-  groups_few =
-      by_size (λ (size : ℕ). groups * size ≤ 2 ^ largest → groups ≤ 2 ^ largest) (λ h. omega arith) (λ h. omega arith) (λ h. omega arith) (λ h. omega arith) g.shape g.seats
-
-  -- a group has one slot at least
-  pub size-some : 1 ≤ size
-  size-some = by_size (λ (size : ℕ). 1 ≤ size) (omega arith) (omega arith) (omega arith) (omega arith) g.shape
-
   -- and 8 at most
   pub size_small : size ≤ 8
   size_small = eight_at_most g.shape

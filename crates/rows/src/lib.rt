@@ -20,7 +20,7 @@ use crate::seat::Entries;
 // How many seats the groups of the largest block have together.
 pub const SEATS: usize = 64;
 
-// What a bit adds, at each seat.
+// What the bits of a slot add, at each seat.
 pub type Seats = [Added; SEATS];
 
 // A slot that adds nothing.

@@ -1,32 +1,22 @@
 -- `rows::rows` meets its contract: before each turn the groups before k have their rows.
 use Prim.Native.Nat.{◌+◌, ◌<◌, ◌≤◌, min}
-use mathlib.Core.Path.{◌≡◌, refl}
+use mathlib.Core.Path.{◌≡◌}
 use native.Mathlib.Nat.{le_refl}
 use native.Mathlib.Omega.{arith}
-use Rattle.rows.proofs.Cells.{shaped_none}
 use Rattle.rows.proofs.Filling.{built_more, rows_right}
 use Rattle.rows.proofs.Places.{four_sized}
 use Rattle.rows.proofs.rows.Goals as goal
-
-pub first_rows-requires : goal.first_rows-requires
-first_rows-requires c = (shaped_none, c.requires, omega arith)
 
 pub returns-then-size-le2 : goal.returns-then-size-le2
 returns-then-size-le2 c =
     let all : min c.args.size 2 ≡ c.args.size = omega (arith, c.if-size-le2.true) in
     rows_right _ _ c.requires (le_refl c.args.groups) (rw all at c.first_rows.ensures.built)
 
-pub loop-k-init : goal.loop-k-init
-loop-k-init c = (refl, shaped_none, shaped_none, λ k j low high. absurd (omega arith))
-
 pub four_rows-requires-clause-slots : goal.four_rows-requires-clause-slots
 four_rows-requires-clause-slots c =
     let l = c.loop-k in
     let few : 2 < c.args.size = omega (arith, c.if-size-le2.false) in
     (few, four_sized c.requires few c.loop-k-test.true l.invariant.0)
-
-pub four_rows-requires-clause-tables : goal.four_rows-requires-clause-tables
-four_rows-requires-clause-tables c = (c.loop-k.invariant.2, c.loop-k.invariant.1)
 
 pub loop-k-preserved : goal.loop-k-preserved
 loop-k-preserved c =

@@ -1,15 +1,11 @@
 -- `rows::first::first_rows` meets its contract: before each turn the groups before k have their rows.
-use mathlib.Core.Path.{◌≡◌}
 use native.Mathlib.Omega.{arith}
-use Rattle.rows.proofs.Filling.{place_room, filled_none, filled_more}
+use Rattle.rows.proofs.Filling.{place_room, filled_more}
 use Rattle.rows.proofs.Places.{place, size_small, entries_shifted}
 use Rattle.rows.proofs.first.first_rows.Goals as goal
 
 pub overflow_shl-entries : goal.overflow_shl-entries
 overflow_shl-entries c = omega (arith, size_small c.requires.1)
-
-pub loop-k-init : goal.loop-k-init
-loop-k-init c = filled_none _ _ c.requires.0
 
 pub overflow_mul-k : goal.overflow_mul-k
 overflow_mul-k c =
@@ -25,8 +21,3 @@ pub loop-k-preserved : goal.loop-k-preserved
 loop-k-preserved c =
     let l = c.loop-k in
     filled_more l.invariant (omega arith) (omega arith) (rw (entries_shifted c.requires.1) at c.first_row.ensures)
-
-pub returns : goal.returns
-returns c =
-    let all : c.loop-k.k ≡ c.args.last = omega arith in
-    rw all at c.loop-k.invariant
