@@ -19,4 +19,3 @@ pub loop-m-preserved : goal.loop-m-preserved
 loop-m-preserved c =
     let self = c.args.self.now in
     covering_next self.grouped c.loop-m.invariant c.loop-m-test.true self.seated c.double.auto.items c.double.ensures (λ w x made. search rules)
-
