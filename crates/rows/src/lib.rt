@@ -33,11 +33,13 @@ pub const ROWS: usize = 8;
 pub type Table = [[u32; 256]; ROWS];
 
 // From the rows of the first t slots of four groups, those with slot t.
+// The seats and the size of a group go along as two parameters: a struct of a lent list and a number has no method of its own here.
 fn add_slots(from: &Table, to: &mut Table, group: usize, size: usize, t: usize, seats: &Seats)
     requires slots { (t < size) × Sized (group + 4) size }
     requires tables { Shaped to.old × Built seats.now size t group (group + 4) from.now }
     ensures { Filled seats.now size (suc t) group (group + 4) to.old to.new }
 {
+    // A loop and no `from_fn`, whose closure would have to ask for the bounds of k, t and the groups once more.
     let mut added = [Entries { zero: 0, one: 0 }; 4];
     for (k, own) in added.iter_mut().enumerate() {
         let seat = (group + k) * size + t;
