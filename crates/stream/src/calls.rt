@@ -28,6 +28,7 @@ pub fn fill<R: Read>(input: &mut R, bytes: &mut [u8]) -> Got
     ensures end { result.len < length bytes.old → IsNone result.failure → IsAtEnd (R.remaining input.new) }
 {
     let mut len = 0;
+    // A turn goes on by as many bytes as came, which no range counts.
     while len < bytes.len() {
         match input.read(&mut bytes[len..]) {
             Ok(0) => break,
@@ -50,6 +51,7 @@ pub fn put<W: Write>(output: &mut W, bytes: &[u8]) -> io::Result<()>
     ensures { OnOk result (Appends (W.contents output.old) (W.contents output.new) bytes.now) }
 {
     let mut done = 0;
+    // By as many bytes as were written, in the same way.
     while done < bytes.len() {
         let more = output.write(&bytes[done..])?;
         if more == 0 {
