@@ -1,0 +1,2 @@
+-- What `printing` prints.
+pub mod Printed
