@@ -1,13 +1,15 @@
 -- Room for what is written: how a test of it by whole quotients is the test by products, and what passing it says of both buffers.
 use Prim.Native.Nat.{ℕ, ◌+◌, ◌*◌, ◌/◌, ◌≤◌, ◌<◌}
-use mathlib.Core.Path.{◌≡◌, refl, sym, ◌∙◌}
-use mathlib.Core.Bool.{Bool, true, false, false≢true, ◌&&◌}
+use mathlib.Core.Path.{◌≡◌, sym, ◌∙◌}
+use mathlib.Core.Bool.{true, ◌&&◌}
 use mathlib.Core.Logic.{◌↔◌}
 use native.Mathlib.Nat.{add-mul, le-div_iff_mul-le, mul-le-mul_right}
 use native.Mathlib.Decide.{dec_lt}
 use native.Mathlib.Omega.{arith}
 use lib.Dec.{leb, ltb}
 use borrow.Author.Tests.{lt-ltb, le-ltb, le-leb, lt-leb, leb-true}
+use Rattle.std.proofs.Math.Bool.{and-true}
+use Rattle.std.proofs.lemmas.Bool.{and_parts}
 use Rattle.rules.specs.Record.{record_bytes}
 use Rattle.rules.specs.Request.{request_bytes}
 use Rattle.lines.specs.Lines.{longest}
@@ -30,10 +32,6 @@ quotient_test a part have some = go (dec_lt a (have / part))
         less (yes h) = h
         less (no h) = absurd (l (let enough = parts.1 (omega arith) in omega arith))
 
-and-true : (a : Bool) → (a && true) ≡ a
-and-true true = refl
-and-true false = refl
-
 -- the test of each program, by quotients
 pub blocks_test : (program : Program) (len out said : ℕ) → program ≡ Blocks → ltb (len / record_bytes) (out / longest) ≡ has_room program len out said
 blocks_test program len out said e =
@@ -45,17 +43,11 @@ pub make_test : (program : Program) (len out said : ℕ) → program ≡ Make
 make_test program len out said e =
     rw (e, quotient_test (len / request_bytes) record_bytes out (omega arith), quotient_test (len / request_bytes) longest_refusal said (omega arith))
 
--- both tests of a conjunction that holds
-both : (a b : Bool) → (a && b) ≡ true → (a ≡ true) × (b ≡ true)
-both true true e = (e, e)
-both true false e = (refl, e)
-both false b e = absurd (false≢true e)
-
 -- the buffers that are roomy have room
 pub roomy_both : (program : Program) (len out said : ℕ) → has_room program len out said ≡ true
     → (records_in program len * longest_shown program ≤ out) × (records_in program len * longest_said program ≤ said)
 roomy_both program len out said e =
-    let tests = both (leb (records_in program len * longest_shown program) out) (leb (records_in program len * longest_said program) said) e in
+    let tests = and_parts (leb (records_in program len * longest_shown program) out) (leb (records_in program len * longest_said program) said) e in
     (leb-true _ _ tests.0, leb-true _ _ tests.1)
 
 -- where a record begins after so many, one more has room

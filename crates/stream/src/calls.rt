@@ -46,7 +46,8 @@ pub fn fill<R: Read>(input: &mut R, bytes: &mut [u8]) -> Got
     Got { len, failure: None }
 }
 
-// Writes until all of the bytes are written, or a write takes nothing or fails. A write that a signal has interrupted has failed.
+// Writes until all of the bytes are written, or a write takes nothing or fails. A write that a signal has interrupted has failed, so it
+// is no `write_all`, which would try again.
 pub fn put<W: Write>(output: &mut W, bytes: &[u8]) -> io::Result<()>
     ensures { OnOk result (Appends (W.contents output.old) (W.contents output.new) bytes.now) }
 {
