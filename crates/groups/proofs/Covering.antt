@@ -8,7 +8,7 @@ use native.Mathlib.Omega.{arith}
 use lib.Bits.{bit_xor, xor_comm, xor_shifted}
 use lib.Count.{ones}
 use lib.ListN.{length, get_or}
-use lib.Pow.{pow_mono, pow_pos}
+use lib.Pow.{pow_mono}
 use Rattle.rules.specs.Refusals.{largest}
 use Rattle.laws.specs.Code.Matrix.{codeword-lt}
 use Rattle.laws.specs.Seats.Copied.{covered_of}
@@ -30,10 +30,6 @@ pub record Covering (g : Tree) (r : List Word) (m : ℕ) : Type 0 where
   pub long : length r ≡ 2 ^ largest
   pub power : (b : ℕ) × (m ≡ 2 ^ b)
   pub done : Begins r (covered_of g.n g.folding) m
-
--- m is not 0
-pub some_done : {g : Tree} {r : List Word} {m : ℕ} → Covering g r m → 0 < m
-some_done inv = rw inv.power.1 (pow_pos inv.power.0)
 
 -- a power of two below another: twice it is at most the other
 twice_within : (b c : ℕ) → 2 ^ b < 2 ^ c → 2 ^ b + 2 ^ b ≤ 2 ^ c

@@ -3,7 +3,7 @@ use Prim.Native.Nat.{ℕ, zero, suc, ◌+◌, ◌-◌, ◌*◌, ◌^◌, ◌≤�
 use mathlib.Core.Path.{◌≡◌, refl, sym, ap, ap₂, ◌∙◌}
 use mathlib.Core.List.{List}
 use mathlib.Core.Logic.{◌≢◌, inl, inr, ⊎_elim}
-use native.Mathlib.Nat.{zero-add, zero-mul, one-mul, add-mul, suc-mul, mul-le-mul_right}
+use native.Mathlib.Nat.{zero-add, one-mul, add-mul, suc-mul, mul-le-mul_right}
 use native.Mathlib.Numerals.{add-one}
 use native.Mathlib.Decide.{dec_lt, ℕ_discrete}
 use native.Mathlib.Omega.{arith}
@@ -72,11 +72,6 @@ later_seats {levels} {index} k size l h =
       held = λ t b. rw zero-add at (h.held (k + t) (omega arith));
       ranged = λ t b. rw zero-add at (h.ranged (k + t) (omega arith));
     }
-
--- no group yet
-pub all_none : {levels : List ℤ} {index : List ℕ} (size : ℕ) {seats : List Added} {near : List ℕ} → length seats ≡ 2 ^ largest
-    → Gives levels index 0 size seats near
-all_none size long = record { own = λ seat h. absurd (omega (arith, zero-mul size)); long = long; sums = λ k h. absurd (omega arith) }
 
 -- one group more
 pub all_next : {levels : List ℤ} {index : List ℕ} {k size : ℕ} {seats seats' : List Added} {near : List ℕ} {r : ℕ}

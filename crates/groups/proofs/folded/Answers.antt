@@ -3,7 +3,6 @@ use Prim.Native.Nat.{ℕ, ◌*◌, ◌/◌, ◌%◌, ◌^◌, ◌≤◌}
 use mathlib.Core.Path.{◌≡◌, refl, ap, ap₂, ◌∙◌}
 use native.Mathlib.Omega.{arith}
 use lib.Count.{ones}
-use lib.Pow.{pow_pos}
 use Rattle.laws.specs.Numbers.Bits.{power_shifted}
 use Rattle.word.specs.Sizes.{slots_are}
 use Rattle.groups.proofs.folded.Goals as goal

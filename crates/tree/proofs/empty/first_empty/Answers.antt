@@ -1,11 +1,8 @@
 -- `tree::empty::first_empty` meets its contract. Invariant: no level before this one is empty.
 use native.Mathlib.Omega.{arith}
 use Rattle.groups.proofs.Tabling.{size_small, few_groups}
-use Rattle.tree.proofs.deciding.Emptiness.{passed_none, passed_next, found-empty, found_none}
+use Rattle.tree.proofs.deciding.Emptiness.{passed_next, found-empty, found_none}
 use Rattle.tree.proofs.empty.first_empty.Goals as goal
-
-pub loop-level-init : goal.loop-level-init
-loop-level-init c = passed_none c.requires.0
 
 pub bounds-shut-group : goal.bounds-shut-group
 bounds-shut-group c = omega (arith, few_groups c.requires.0)

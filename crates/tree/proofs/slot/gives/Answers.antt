@@ -11,7 +11,7 @@ use Rattle.tree.specs.Slots.{Levelled}
 use Rattle.groups.specs.Grouping.{Grouped}
 use Rattle.groups.specs.declared.Tree.{Tree}
 use Rattle.groups.proofs.Tabling.{few_groups}
-use Rattle.tree.proofs.Giving.{later_seats, all_none, all_next}
+use Rattle.tree.proofs.Giving.{later_seats, all_next}
 use Rattle.tree.proofs.slot.gives.Goals as goal
 
 -- the seats of a group
@@ -22,9 +22,6 @@ group groups size k h l = later_seats (k * size) size (omega (arith, mul-le-mul_
 k-small : {tree : Tree} {k : ℕ} → Grouped tree → k < tree.groups → k < 2 ^ largest
 k-small grouped h = omega (arith, few_groups grouped, h)
 
-pub loop-k-init : goal.loop-k-init
-loop-k-init c = (all_none _ c.requires.long.0, c.requires.long.1)
-
 pub overflow_mul-k : goal.overflow_mul-k
 overflow_mul-k c =
     let tree = c.args.layout.now.tree in
@@ -34,9 +31,6 @@ pub group_gives-requires : goal.group_gives-requires
 group_gives-requires c =
     let tree = c.args.layout.now.tree in
     (group tree.groups tree.size _ c.requires.levelled c.loop-k-test.true, c.loop-k.invariant.0.long)
-
-pub bounds-near-k : goal.bounds-near-k
-bounds-near-k c = k-small c.args.layout.now.grouped c.loop-k-test.true
 
 pub loop-k-preserved : goal.loop-k-preserved
 loop-k-preserved c =

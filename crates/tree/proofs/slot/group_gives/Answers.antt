@@ -28,15 +28,6 @@ given c =
 pub loop-t-init : goal.loop-t-init
 loop-t-init c = gives_none _ _ _ _ c.requires.1
 
-pub overflow_add-seat : goal.overflow_add-seat
-overflow_add-seat c = omega (arith, c.requires.0.within, c.loop-t-test.true)
-
-pub seat_level-requires : goal.seat_level-requires
-seat_level-requires c = (omega (arith, c.requires.0.within, c.loop-t-test.true), c.requires.0.held _ c.loop-t-test.true)
-
-pub bounds-seats-seat : goal.bounds-seats-seat
-bounds-seats-seat c = omega (arith, c.requires.0.within, c.loop-t-test.true)
-
 pub invariant_of-seats : goal.invariant_of-seats
 invariant_of-seats c =
     let own = given (goal.at.invariant_of-seats c).After-slot-own in

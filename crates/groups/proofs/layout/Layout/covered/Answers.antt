@@ -1,9 +1,8 @@
 -- `Layout::covered` meets its contract. Invariant: the groups below m are done, and m is a power of two.
 use mathlib.Core.Path.{refl}
-use native.Mathlib.Omega.{arith}
 use borrow.Author.Rules.{rules}
 use Rattle.groups.proofs.Tabling.{first_seat_fits}
-use Rattle.groups.proofs.Covering.{covering_first, room_behind, some_done, covering_next}
+use Rattle.groups.proofs.Covering.{covering_first, room_behind, covering_next}
 use Rattle.groups.proofs.layout.Layout.covered.Goals as goal
 
 pub loop-m-init : goal.loop-m-init

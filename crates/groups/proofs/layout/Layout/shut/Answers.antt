@@ -1,5 +1,5 @@
 -- `Layout::shut` meets its contract. Invariant: the groups below k are done.
-use mathlib.Core.Path.{refl, ap, ◌∙◌}
+use mathlib.Core.Path.{ap, ◌∙◌}
 use native.Mathlib.Omega.{arith}
 use lib.Bits.{bit_and}
 use lib.ListN.{length-set}
