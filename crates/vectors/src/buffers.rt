@@ -1,100 +1,54 @@
 // What stands in a lent buffer after a call: text, records, and the bytes that are as they were. Each byte is 7 before the call.
-ghost use Rattle.std.specs.Prelude.{◌≤◌, length};
-
+use std::io;
 use std::io::Write;
 
-// A byte of a text: '/' for a newline.
-fn byte(to: &mut impl Write, b: u8) {
-    let shown = if b == b'\n' { b'/' } else { b };
-    printing::say(to, &[shown]);
-}
-
-// A text after a space, and nothing where it is empty.
-pub(crate) fn text(to: &mut impl Write, text: &[u8]) {
-    if 0 < text.len() {
-        printing::say(to, b" ");
+// A text after a space, with '/' for a newline, and nothing where it is empty.
+pub(crate) fn text(to: &mut impl Write, text: &[u8]) -> io::Result<()> {
+    if !text.is_empty() {
+        write!(to, " ")?;
     }
-    let mut i = 0;
-    while i < text.len() {
-        byte(to, text[i]);
-        i += 1;
+    for b in text {
+        let shown = if *b == b'\n' { b'/' } else { *b };
+        to.write_all(&[shown])?;
     }
+    Ok(())
 }
 
-// 1 for a byte of the buffer that is as it was before the call, and 0 for any other.
-fn untouched(b: u8) -> u64
-    ensures { result ≤ 1 }
-{
-    if b == 7 { 1 } else { 0 }
+// How many bytes of the buffer are as they were before the call.
+pub(crate) fn left(buffer: &[u8]) -> usize {
+    buffer.iter().filter(|b| **b == 7).count()
 }
 
-// How many bytes of the buffer, from a place on, are as they were before the call.
-pub(crate) fn left(buffer: &[u8], from: usize) -> u64 {
-    let mut left: u64 = 0;
-    let mut i = from;
-    while i < buffer.len() {
-        left += untouched(buffer[i]);
-        i += 1;
-    }
-    left
-}
-
-// A byte in two hexadecimal digits.
-fn digits(to: &mut impl Write, b: u8) {
-    let value = b as u64;
-    printing::hex(to, b"", value >> 4);
-    printing::hex(to, b"", value & 15);
-}
-
-// The first 16 bytes of a record.
-fn header(to: &mut impl Write, bytes: &[u8])
-    requires { 144 ≤ length bytes.now }
-{
-    printing::say(to, b" record=");
-    let mut i = 0;
-    while i < 16 {
-        digits(to, bytes[i]);
-        i += 1;
-    }
-}
-
-// A level by its two bytes: + for 256, - for -256, 0 for 0, ? for any other.
-fn sign(to: &mut impl Write, low: u8, high: u8) {
-    let sign = match (high as u32) << 8 | low as u32 {
-        0x0100 => b'+',
-        0xff00 => b'-',
-        0 => b'0',
-        _ => b'?',
+// A level: + for 256, - for -256, . where nothing was written, ? for any other.
+pub(crate) fn sign(to: &mut impl Write, level: i32) -> io::Result<()> {
+    let sign = match level {
+        256 => '+',
+        -256 => '-',
+        0 => '0',
+        7 => '.',
+        _ => '?',
     };
-    printing::say(to, &[sign]);
+    write!(to, "{sign}")
 }
 
-// The 64 levels of a record.
-fn signs(to: &mut impl Write, bytes: &[u8])
-    requires { 144 ≤ length bytes.now }
-{
-    printing::say(to, b" levels=");
-    let mut at = 16;
-    while at < 143 {
-        sign(to, bytes[at], bytes[at + 1]);
-        at += 2;
+// A record: its first 16 bytes, and the signs of its 64 levels.
+fn record(to: &mut impl Write, record: &[u8; 144]) -> io::Result<()> {
+    let (header, levels) = record.split_at(16);
+    write!(to, " record=")?;
+    for b in header {
+        write!(to, "{b:02x}")?;
     }
-}
-
-// The record in front of a buffer.
-pub(crate) fn record(to: &mut impl Write, buffer: &[u8])
-    requires { 144 ≤ length buffer.now }
-{
-    header(to, buffer);
-    signs(to, buffer);
-}
-
-// All the records of a buffer that has no other bytes.
-pub(crate) fn records(to: &mut impl Write, buffer: &[u8]) {
-    let records = buffer.len() / 144;
-    let mut i = 0;
-    while i < records {
-        record(to, &buffer[144 * i..]);
-        i += 1;
+    write!(to, " levels=")?;
+    for level in levels.as_chunks::<2>().0 {
+        sign(to, i16::from_le_bytes(*level).into())?;
     }
+    Ok(())
+}
+
+// The records of a buffer, each of 144 bytes.
+pub(crate) fn records(to: &mut impl Write, buffer: &[u8]) -> io::Result<()> {
+    for bytes in buffer.as_chunks::<144>().0 {
+        record(to, bytes)?;
+    }
+    Ok(())
 }

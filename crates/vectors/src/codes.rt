@@ -1,30 +1,35 @@
 // A code by its n and its mask: the constructor and the guard.
-use crate::{line, words};
-use code::{Code, Guard, Made};
+use crate::arrow::shown;
+use crate::line::Line;
+use code::Code;
+use std::io;
 use std::io::Write;
+use word::Word;
 
 // The code of a line, whose first two numbers are its n and its mask.
-pub(crate) fn given(line: &[u8]) -> Code {
+pub(crate) fn given(line: Line<'_>) -> Code {
     Code {
-        n: line::small(line, 0),
-        frozen: word::of(line::number(line, 1)),
+        n: line.small(0),
+        frozen: Word::from(line.number(1)),
     }
 }
 
-pub(crate) fn new(to: &mut impl Write, line: &[u8]) {
-    match Code::new(line::small(line, 0), word::of(line::number(line, 1))) {
-        Made::Code(c) => {
-            printing::number(to, b" -> code n=", c.n as u64);
-            printing::hex(to, b" mask=0x", word::low(c.frozen));
-        }
-        Made::Refused(r) => printing::refused(to, r),
+pub(crate) fn new(to: &mut impl Write, line: Line<'_>) -> io::Result<()> {
+    match Code::new(line.small(0), Word::from(line.number(1))) {
+        Ok(code) => write!(
+            to,
+            " -> code n={} mask=0x{:x}",
+            code.n,
+            u64::from(code.frozen)
+        ),
+        Err(refusal) => shown(to, refusal),
     }
 }
 
-pub(crate) fn guard(to: &mut impl Write, line: &[u8]) {
+pub(crate) fn guard(to: &mut impl Write, line: Line<'_>) -> io::Result<()> {
     match given(line).guard() {
-        Guard::Guard(figure) => words::counted(to, figure as u64),
-        Guard::NoGuard => words::none(to),
-        Guard::Refused(r) => printing::refused(to, r),
+        Ok(Some(figure)) => shown(to, figure),
+        Ok(None) => shown(to, "none"),
+        Err(refusal) => shown(to, refusal),
     }
 }

@@ -1,42 +1,30 @@
 // Decoding levels.
-use crate::line;
+use crate::arrow::shown;
+use crate::line::Line;
+use refusal::Refusal;
+use std::io;
 use std::io::Write;
-use tree::Answer;
+use tree::Decoded;
+use word::Word;
 
 // The finished decoding, or why there is none.
-pub(crate) fn answer(to: &mut impl Write, answer: Answer) {
+pub(crate) fn answer(to: &mut impl Write, answer: Result<Decoded, Refusal>) -> io::Result<()> {
     match answer {
-        Answer::Found(found) => {
-            printing::number(to, b" -> message=", word::low(found.message));
-            printing::hex(to, b" d=0x", word::low(found.d));
-            printing::hex(to, b" x=0x", word::low(found.x));
-            printing::number(to, b" distance=", found.distance as u64);
-            printing::number(to, b" visits=", found.visits as u64);
+        Ok(found) => {
+            let [message, d, x] = [found.message, found.d, found.x].map(u64::from);
+            write!(to, " -> message={message} d=0x{d:x} x=0x{x:x}")?;
+            write!(to, " distance={} visits={}", found.distance, found.visits)
         }
-        Answer::Refused(r) => printing::refused(to, r),
+        Err(refusal) => shown(to, refusal),
     }
 }
 
-fn decode_of(to: &mut impl Write, line: &[u8], levels: &[i32]) {
-    let n = line::small(line, 0);
-    let frozen = word::of(line::number(line, 1));
+pub(crate) fn decode(to: &mut impl Write, line: Line<'_>) -> io::Result<()> {
+    let mut room = [0; 128];
+    let levels = line.levels(&mut room);
+    let frozen = Word::from(line.number(1));
     answer(
         to,
-        tree::decode(
-            n,
-            levels,
-            frozen,
-            line::small(line, 2),
-            line::small(line, 3),
-        ),
-    );
-}
-
-pub(crate) fn decode(to: &mut impl Write, line: &[u8]) {
-    let given = line::levels(line);
-    let count = given.count;
-    let levels = given.levels;
-    if count <= 128 {
-        decode_of(to, line, &levels[..count]);
-    }
+        tree::decode(line.small(0), levels, frozen, line.small(2), line.small(3)),
+    )
 }

@@ -1,58 +1,43 @@
 // Encoding a message: to words, and to ideal levels in a lent slice.
-use crate::{codes, line};
+use crate::arrow::shown;
+use crate::line::Line;
+use crate::{buffers, codes};
 use code::Encoded;
+use refusal::Refusal;
+use std::io;
 use std::io::Write;
+use word::Word;
 
-fn answer(to: &mut impl Write, answer: Encoded) {
+fn answer(to: &mut impl Write, answer: Result<Encoded, Refusal>) -> io::Result<()> {
     match answer {
-        Encoded::Words(d, x) => {
-            printing::hex(to, b" -> d=0x", word::low(d));
-            printing::hex(to, b" x=0x", word::low(x));
-        }
-        Encoded::Refused(r) => printing::refused(to, r),
+        Ok(Encoded { d, x }) => write!(to, " -> d=0x{:x} x=0x{:x}", u64::from(d), u64::from(x)),
+        Err(refusal) => shown(to, refusal),
     }
 }
 
-pub(crate) fn encode(to: &mut impl Write, line: &[u8]) {
+pub(crate) fn encode(to: &mut impl Write, line: Line<'_>) -> io::Result<()> {
+    let message = Word::from(line.number(2));
+    answer(to, code::encode(codes::given(line), message))
+}
+
+fn encode_in(to: &mut impl Write, line: Line<'_>, slice: &mut [i32]) -> io::Result<()> {
+    let message = Word::from(line.number(2));
     answer(
         to,
-        code::encode(codes::given(line), word::of(line::number(line, 2))),
-    );
-}
-
-// A level of the slice after the call: + for 256, - for -256, . where the call wrote nothing.
-fn sign(to: &mut impl Write, level: i32) {
-    let sign = match level {
-        256 => b'+',
-        -256 => b'-',
-        7 => b'.',
-        _ => b'?',
-    };
-    printing::say(to, &[sign]);
-}
-
-fn signs(to: &mut impl Write, levels: &[i32]) {
-    printing::say(to, b" levels=");
-    let mut i = 0;
-    while i < levels.len() {
-        sign(to, levels[i]);
-        i += 1;
+        code::levels::encode_levels(codes::given(line), message, slice),
+    )?;
+    write!(to, " levels=")?;
+    for level in slice {
+        buffers::sign(to, *level)?;
     }
-}
-
-fn encode_in(to: &mut impl Write, line: &[u8], slice: &mut [i32]) {
-    answer(
-        to,
-        code::levels::encode_levels(codes::given(line), word::of(line::number(line, 2)), slice),
-    );
-    signs(to, slice);
+    Ok(())
 }
 
 // A slice of that many slots, up to 65, each at 7 before the call.
-pub(crate) fn encode_levels(to: &mut impl Write, line: &[u8]) {
-    let mut slice = [7i32; 65];
-    let slots = line::number(line, 3) as usize;
-    if slots <= 65 {
-        encode_in(to, line, &mut slice[..slots]);
+pub(crate) fn encode_levels(to: &mut impl Write, line: Line<'_>) -> io::Result<()> {
+    let mut slice = [7; 65];
+    match slice.get_mut(..line.number(3) as usize) {
+        Some(slice) => encode_in(to, line, slice),
+        None => Ok(()),
     }
 }

@@ -5,6 +5,7 @@
 
 ghost use Rattle.std.specs.Prelude.{◌≤◌, length};
 
+mod arrow;
 mod assembling;
 mod buffers;
 mod codes;
@@ -18,90 +19,65 @@ mod requests;
 mod samples;
 mod words;
 
+use line::Line;
 use std::io;
 use std::io::{LineWriter, Read, Write};
 
-// What came of a call, by its number in the list of names.
-fn answer(to: &mut impl Write, line: &[u8], name: usize) {
-    match name {
-        0 => codes::new(to, line),
-        1 => codes::guard(to, line),
-        2 => encoding::encode(to, line),
-        3 => encoding::encode_levels(to, line),
-        4 => decoding::decode(to, line),
-        5 => samples::level(to, line),
-        6 => assembling::new(to, line),
-        7 => assembling::take(to, line),
-        8 => assembling::give(to, line),
-        9 => records::record(to, line, false),
-        10 => records::record(to, line, true),
-        11 => piece::lines(to, line),
-        12 => requests::read(to, line),
-        13 => requests::write(to, line),
-        14 => piece::made(to, line),
+// What came of a call, by its name.
+fn answer(to: &mut impl Write, line: Line<'_>) -> io::Result<()> {
+    match line.name() {
+        b"new" => codes::new(to, line),
+        b"guard" => codes::guard(to, line),
+        b"encode" => encoding::encode(to, line),
+        b"encode_levels" => encoding::encode_levels(to, line),
+        b"decode" => decoding::decode(to, line),
+        b"level" => samples::level(to, line),
+        b"new_assembler" => assembling::new(to, line),
+        b"take" => assembling::take(to, line),
+        b"give" => assembling::give(to, line),
+        b"read" => records::read(to, line),
+        b"record" => records::decode(to, line),
+        b"lines" => piece::lines(to, line),
+        b"request" => requests::read(to, line),
+        b"write" => requests::write(to, line),
+        b"made" => piece::made(to, line),
         _ => words::answer(to, line),
     }
 }
 
-// A call, or a line that says what calls are there for.
-fn case(to: &mut impl Write, line: &[u8]) {
-    if line::at(line, 0) != b'#' {
-        printing::say(to, line);
-        let name = line::name(
-            line,
-            b"new guard encode encode_levels decode level new_assembler take give read record lines request write made ",
-        );
-        answer(to, line, name);
-        printing::end(to);
-    }
+// The line again, and what came of its call.
+fn case(to: &mut impl Write, line: Line<'_>) -> io::Result<()> {
+    to.write_all(line.text)?;
+    answer(to, line)?;
+    writeln!(to)
 }
 
-// Where the line that starts at a place ends.
-fn end(text: &[u8], start: usize) -> usize
-    requires { start ≤ length text.now }
-    ensures lower_bound { start ≤ result }
-    ensures upper_bound { result ≤ length text.now }
-{
-    let mut i = start;
-    while i < text.len() {
-        if text[i] == b'\n' {
-            return i;
-        }
-        i += 1;
-    }
-    i
-}
-
-// Each line in turn.
+// Each line that is a call. A failed write is passed over: who reads the lines compares them with those that must come.
 fn cases(to: &mut impl Write, text: &[u8]) {
-    let mut start = 0;
-    while start < text.len() {
-        let end = end(text, start);
-        case(to, &text[start..end]);
-        start = end + 1;
+    for line in text.split_inclusive(|b| *b == b'\n') {
+        match line {
+            [b'#', ..] => {}
+            [text @ .., b'\n'] | text => {
+                let _ = case(to, Line { text });
+            }
+        }
     }
 }
 
-// Reads until the buffer is full, the input ends or a read fails, and returns how many bytes came.
+// Reads until the buffer is full, the input ends or a read fails, and returns how many bytes came. (`read_to_end` has no such
+// limit, and tries an interrupted read again.)
 fn read(input: &mut impl Read, text: &mut [u8]) -> usize
     ensures { result ≤ length text.new }
 {
     let mut len = 0;
-    while len < text.len() {
-        match input.read(&mut text[len..]) {
-            Ok(0) | Err(_) => {
-                return len;
-            }
-            Ok(more) => {
-                len += more;
-            }
-        }
+    while let Ok(more @ 1..) = input.read(&mut text[len..]) {
+        len += more;
     }
     len
 }
 
 fn main(rt: HostRuntime) -> io::Result<()> {
-    let mut text = [0u8; 65536];
+    let mut text = [0; 65536];
     let len = read(&mut rt.stdin(), &mut text);
     let mut to = LineWriter::new(rt.alloc(), rt.stdout())?;
     cases(&mut to, &text[..len]);

@@ -1,37 +1,53 @@
 // What a program over records writes for a piece of them: the lines of document 01's three records, the records of five requests.
 ghost use Rattle.std.specs.Prelude.{◌≤◌, length};
 
-use crate::{buffers, given, line};
-use pieces::{Program, Written};
+use crate::line::Line;
+use crate::{buffers, given};
+use pieces::{Ends, Program};
+use std::io;
 use std::io::Write;
 
-// How many bytes were put in front of a buffer, and how many of those behind them are as they were.
-fn filled(to: &mut impl Write, name: &[u8], buffer: &[u8], len: usize) {
-    printing::number(to, name, len as u64);
-    printing::number(to, b" left=", buffers::left(buffer, len));
-}
-
-// Both buffers after the call, with their first bytes. A second one without bytes is passed over.
-fn wrote(to: &mut impl Write, program: Program, out: &[u8], said: &[u8], shown: usize, told: usize)
-    requires { (shown ≤ length out.now) × (told ≤ length said.now) }
+// Both buffers after the call: how many bytes were put in front of them, how many of those behind are as they were, and the first
+// ones. A second one without bytes is passed over.
+fn wrote(
+    to: &mut impl Write,
+    program: Program,
+    out: &[u8],
+    said: &[u8],
+    ends: Ends,
+) -> io::Result<()>
+    requires { (ends.out ≤ length out.now) × (ends.said ≤ length said.now) }
 {
-    filled(to, b" -> length=", out, shown);
-    if 0 < said.len() {
-        filled(to, b" said length=", said, told);
+    let (shown, behind) = out.split_at(ends.out);
+    write!(
+        to,
+        " -> length={} left={}",
+        shown.len(),
+        buffers::left(behind)
+    )?;
+    let (told, behind) = said.split_at(ends.said);
+    if !said.is_empty() {
+        write!(
+            to,
+            " said length={} left={}",
+            told.len(),
+            buffers::left(behind)
+        )?;
     }
     match program {
-        Program::Blocks => buffers::text(to, &out[..shown]),
-        Program::Make => buffers::records(to, &out[..shown]),
+        Program::Blocks => buffers::text(to, shown)?,
+        Program::Make => buffers::records(to, shown)?,
     }
-    buffers::text(to, &said[..told]);
+    buffers::text(to, told)
 }
 
 // Both buffers after a call that found no room in one of them.
-fn no_room(to: &mut impl Write, out: &[u8], said: &[u8]) {
-    printing::number(to, b" -> no room left=", buffers::left(out, 0));
-    if 0 < said.len() {
-        printing::number(to, b" said left=", buffers::left(said, 0));
+fn no_room(to: &mut impl Write, out: &[u8], said: &[u8]) -> io::Result<()> {
+    write!(to, " -> no room left={}", buffers::left(out))?;
+    if !said.is_empty() {
+        write!(to, " said left={}", buffers::left(said))?;
     }
+    Ok(())
 }
 
 fn write(
@@ -41,42 +57,31 @@ fn write(
     number: u32,
     out: &mut [u8],
     said: &mut [u8],
-) {
+) -> io::Result<()> {
     match pieces::write(program, bytes, number, out, said) {
-        Written::Bytes(shown, told) => wrote(to, program, out, said, shown, told),
-        Written::NoRoom => no_room(to, out, said),
+        Some(ends) => wrote(to, program, out, said, ends),
+        None => no_room(to, out, said),
     }
 }
 
 // The first bytes of what is given, and two buffers of that room: numbers 2 and 3 of the line, and none where it has no number 3.
-fn piece(to: &mut impl Write, program: Program, given: &[u8], line: &[u8]) {
-    let mut out = [7u8; 900];
-    let mut said = [7u8; 24];
-    let bytes = line::number(line, 1) as usize;
-    let room = line::number(line, 2) as usize;
-    let said_room = line::number(line, 3) as usize;
-    if bytes <= given.len() {
-        if room <= 900 {
-            if said_room <= 24 {
-                write(
-                    to,
-                    program,
-                    &given[..bytes],
-                    line::small(line, 0),
-                    &mut out[..room],
-                    &mut said[..said_room],
-                );
-            }
-        }
+fn piece(to: &mut impl Write, program: Program, given: &[u8], line: Line<'_>) -> io::Result<()> {
+    let mut out = [7; 900];
+    let mut said = [7; 24];
+    let number = line.small(0);
+    if let Some(bytes) = given.get(..line.number(1) as usize)
+        && let Some(out) = out.get_mut(..line.number(2) as usize)
+        && let Some(said) = said.get_mut(..line.number(3) as usize)
+    {
+        return write(to, program, bytes, number, out, said);
     }
+    Ok(())
 }
 
-pub(crate) fn lines(to: &mut impl Write, line: &[u8]) {
-    let given = given::three();
-    piece(to, Program::Blocks, &given, line);
+pub(crate) fn lines(to: &mut impl Write, line: Line<'_>) -> io::Result<()> {
+    piece(to, Program::Blocks, &given::three(), line)
 }
 
-pub(crate) fn made(to: &mut impl Write, line: &[u8]) {
-    let given = given::five();
-    piece(to, Program::Make, &given, line);
+pub(crate) fn made(to: &mut impl Write, line: Line<'_>) -> io::Result<()> {
+    piece(to, Program::Make, &given::five(), line)
 }

@@ -2,71 +2,76 @@
 // written into a lent buffer.
 ghost use Rattle.std.specs.Prelude.{◌≤◌, length};
 
-use crate::{buffers, given, line};
-use request::written::Written;
-use request::{Asked, Request};
+use crate::arrow::shown;
+use crate::line::Line;
+use crate::{buffers, given};
+use request::Request;
+use request::written::NotWritten;
+use std::io;
 use std::io::Write;
+use word::Word;
 
-fn fields(to: &mut impl Write, request: Request) {
-    printing::number(to, b" -> n=", request.n as u64);
-    printing::hex(to, b" folding=0x", request.folding as u64);
-    printing::number(to, b" allowance=", request.allowance as u64);
-    printing::hex(to, b" mask=0x", word::low(request.mask));
-    printing::number(to, b" message=", word::low(request.message));
+fn fields(to: &mut impl Write, request: Request) -> io::Result<()> {
+    write!(to, " -> n={} folding=0x{:x}", request.n, request.folding)?;
+    let mask = u64::from(request.mask);
+    let message = u64::from(request.message);
+    write!(
+        to,
+        " allowance={} mask=0x{mask:x} message={message}",
+        request.allowance
+    )
 }
 
-fn read_of(to: &mut impl Write, bytes: &[u8]) {
+fn read_of(to: &mut impl Write, bytes: &[u8]) -> io::Result<()> {
     match request::read(bytes) {
-        Asked::Request(request) => fields(to, request),
-        Asked::Refused(r) => printing::refused(to, r),
+        Ok(request) => fields(to, request),
+        Err(refusal) => shown(to, refusal),
     }
 }
 
 // Number 0 of the line is how many bytes of the request are given.
-pub(crate) fn read(to: &mut impl Write, line: &[u8]) {
-    let request = given::changed_request(line);
-    let bytes = line::number(line, 0) as usize;
-    if bytes <= 26 {
-        read_of(to, &request[..bytes]);
+pub(crate) fn read(to: &mut impl Write, line: Line<'_>) -> io::Result<()> {
+    match given::changed_request(line).get(..line.number(0) as usize) {
+        Some(bytes) => read_of(to, bytes),
+        None => Ok(()),
     }
 }
 
 // The request of a line, by its fields.
-fn given(line: &[u8]) -> Request {
+fn given(line: Line<'_>) -> Request {
     Request {
-        n: line::small(line, 0),
-        folding: line::small(line, 1),
-        allowance: line::small(line, 2),
-        mask: word::of(line::number(line, 3)),
-        message: word::of(line::number(line, 4)),
+        n: line.small(0),
+        folding: line.small(1),
+        allowance: line.small(2),
+        mask: Word::from(line.number(3)),
+        message: Word::from(line.number(4)),
     }
 }
 
 // The record in front of the buffer.
-fn wrote(to: &mut impl Write, out: &[u8])
+fn wrote(to: &mut impl Write, out: &[u8]) -> io::Result<()>
     requires { 144 ≤ length out.now }
 {
-    printing::say(to, b" ->");
-    buffers::record(to, out);
-    printing::number(to, b" left=", buffers::left(out, 144));
+    let (record, behind) = out.split_at(144);
+    write!(to, " ->")?;
+    buffers::records(to, record)?;
+    write!(to, " left={}", buffers::left(behind))
 }
 
-fn write_in(to: &mut impl Write, request: Request, out: &mut [u8]) {
+fn write_in(to: &mut impl Write, request: Request, out: &mut [u8]) -> io::Result<()> {
     match request::written::write(request, out) {
-        Written::Record => wrote(to, out),
-        Written::NoRoom => printing::number(to, b" -> no room left=", buffers::left(out, 0)),
-        Written::Refused(r) => {
-            printing::refused(to, r);
-            printing::number(to, b" left=", buffers::left(out, 0));
-        }
+        Ok(()) => return wrote(to, out),
+        Err(NotWritten::NoRoom) => shown(to, "no room")?,
+        Err(NotWritten::Refused(refusal)) => shown(to, refusal)?,
     }
+    write!(to, " left={}", buffers::left(out))
 }
 
 // A buffer of that many bytes, up to 160.
-pub(crate) fn write(to: &mut impl Write, line: &[u8]) {
-    let mut out = [7u8; 160];
-    let room = line::number(line, 5) as usize;
-    if room <= 160 {
-        write_in(to, given(line), &mut out[..room]);
+pub(crate) fn write(to: &mut impl Write, line: Line<'_>) -> io::Result<()> {
+    let mut out = [7; 160];
+    match out.get_mut(..line.number(5) as usize) {
+        Some(out) => write_in(to, given(line), out),
+        None => Ok(()),
     }
 }

@@ -1,25 +1,12 @@
-// The level of a sample.
-ghost use Rattle.std.specs.Prelude.{◌≡◌, from_bits};
-ghost use Rattle.std.specs.Float.{binary32};
-
-use crate::line;
-use sample::Quantised;
+// The level of a sample. A sample is given by its bit pattern, and a NaN's pattern is the one NaN.
+use crate::arrow::shown;
+use crate::line::Line;
 use std::io::Write;
+use std::{io, num};
 
-// The float of a bit pattern. A NaN's pattern is the one NaN.
-pub(crate) fn sample(bits: u32) -> f32
-    ensures { result ≡ from_bits binary32 bits }
-{
-    if bits & 0x7fff_ffff > 0x7f80_0000 {
-        return 0.0 / 0.0;
-    }
-    f32::from_bits(bits)
-}
-
-pub(crate) fn level(to: &mut impl Write, line: &[u8]) {
-    printing::say(to, b" -> ");
-    match sample::level(sample(line::small(line, 0))) {
-        Quantised::Level(z) => printing::level(to, z),
-        Quantised::NotFinite => printing::say(to, b"not finite"),
+pub(crate) fn level(to: &mut impl Write, line: Line<'_>) -> io::Result<()> {
+    match sample::level(num::f32_from_bits_with_nan(line.small(0))) {
+        Some(level) => shown(to, level),
+        None => shown(to, "not finite"),
     }
 }

@@ -1,10 +1,9 @@
 -- `vectors::read` keeps to its buffer, and ends: each turn that goes on has read at least one byte.
-use Prim.Native.Nat.{◌-◌, ◌≤◌}
-use lib.ListN.{length}
+use Rattle.std.proofs.Common.{◌-◌, ◌≤◌, length}
 use Rattle.vectors.proofs.read.Given as goal
 
-abbrev pub invariant-loop-len : goal.invariant-loop-len
-invariant-loop-len g l = l.len ≤ length l.text
+abbrev pub invariant-loop-more : goal.invariant-loop-more
+invariant-loop-more g l = l.len ≤ length l.text
 
-abbrev pub decreases-loop-len : goal.decreases-loop-len
-decreases-loop-len g l = length l.text - l.len
+abbrev pub decreases-loop-more : goal.decreases-loop-more
+decreases-loop-more g l = length l.text - l.len

@@ -13,6 +13,6 @@ returns c e =
       own = c.args.own;
       first_small = first;
       second_small = second;
-      outside = λ k one. c.loop-i.invariant.1 k (omega (arith, bit-within {k = 2 ^ largest} first one)) one;
-      inside = λ k one. c.loop-i.invariant.2 k (omega (arith, bit-within {k = 2 ^ largest} second one)) one;
+      outside = λ k one. c.loop-i.invariant.0 k (omega (arith, bit-within {k = 2 ^ largest} first one)) one;
+      inside = λ k one. c.loop-i.invariant.1 k (omega (arith, bit-within {k = 2 ^ largest} second one)) one;
     }
