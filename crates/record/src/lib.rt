@@ -8,7 +8,6 @@ ghost use Rattle.record.specs.Reading.{answer_of, zeros_at};
 
 use field::number;
 use refusal::Refusal;
-use std::array;
 use word::Word;
 
 pub const RECORD_BYTES: usize = 144;
@@ -39,7 +38,12 @@ fn levels(bytes: &[u8]) -> [i32; RECORD_SLOTS]
     requires { record_bytes ≤ length bytes.now }
     ensures { result ≡ map (slot_level bytes.now) (list_below record_slots (λ i. true)) }
 {
-    array::from_fn(|slot| level(bytes, slot))
+    // A loop: with `array::from_fn` the crate proves, but what the crates above load of it cannot be written.
+    let mut levels = [0; RECORD_SLOTS];
+    for slot in 0..RECORD_SLOTS {
+        levels[slot] = level(bytes, slot);
+    }
+    levels
 }
 
 // Whether the number in some bytes is zero, so each of them.

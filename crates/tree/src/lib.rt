@@ -70,6 +70,8 @@ fn search(
 }
 
 // The message whose codeword is nearest to the levels, ties to the smallest information word; refusals 1 to 8.
+// An n, a mask and a folding are any numbers until this call has tested them, so they stay parameters: a struct of untested ones would
+// be taken apart again here.
 pub fn decode(
     n: u32,
     levels: &[i32],

@@ -25,7 +25,7 @@ use word::Word;
 
 // What every node of a walk reads: the tree, and for each group the word that it covers, its frozen indices, and what its
 // nearer bits cost. The rows and the changes are lent beside it: where a struct holds these two, or references to them, they are
-// cleared and copied once more for each block, which takes 26 to 60 in a hundred more instructions on clean blocks.
+// cleared and copied once more for each block, which takes 13 in a hundred more instructions on clean blocks, and more.
 #[derive(Clone, Copy)]
 pub struct Walk {
     pub tree: Tree,

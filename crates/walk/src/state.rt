@@ -7,8 +7,8 @@ ghost use Rattle.walk.specs.States.{kept_of};
 
 use word::Word;
 
-// A distance greater than any word's: there is no best word yet. It is no Option: with one the walk takes 8 to 11 in a hundred
-// more instructions on noisy blocks of 64 slots, two tests in place of one at each visit and a longer state in memory.
+// A distance greater than any word's: there is no best word yet. It is no Option: two tests in place of one and a longer state would
+// take 4 to 11 in a hundred more instructions on noisy blocks.
 const NO_BEST: u64 = 4294967296;
 
 // What the walk has so far: the best word, its distance, and the visits.
