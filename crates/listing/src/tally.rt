@@ -31,9 +31,14 @@ impl Add for Tally {
     }
 }
 
+// Behind what the line begins with.
 impl fmt::Display for Tally {
     fn fmt<W: fmt::Write>(&self, f: &mut fmt::Formatter<W>) -> fmt::Result {
-        write!(f, "compared={} different={}", self.compared, self.different)
+        write!(
+            f,
+            " compared={} different={}",
+            self.compared, self.different
+        )
     }
 }
 
@@ -82,7 +87,7 @@ fn permitted(to: &mut impl Write, n: u32, folding: u32, masks: u64) -> Tally
         return Tally::default();
     }
     let tally = folded(to, n, folding, masks);
-    let _ = writeln!(to, "n={n} folding={folding} {tally}");
+    let _ = writeln!(to, "n={n} folding={folding}{tally}");
     tally
 }
 

@@ -1,11 +1,12 @@
-// How a list of levels is printed by a program that tests. Texts, numbers and refusals need nothing from here, since `write!`
-// prints them.
+// What the programs that test print by: a list of levels, and a writer that passes over a write that fails. Texts, numbers and
+// refusals need nothing from here, since `write!` prints them.
 #![tactic(auto)]
 
-ghost use Rattle.std.specs.Prelude.{Some};
+ghost use Rattle.std.specs.Prelude.{◌≡◌, IsOk, Some, Ok, length};
 ghost use Rattle.printing.specs.Printed.{printed};
 
-use std::fmt;
+use std::io::Write;
+use std::{fmt, io};
 
 // The levels in decimal, with a comma between each two.
 #[derive(Clone, Copy)]
@@ -22,6 +23,34 @@ impl fmt::Display for Levels<'_> {
         for level in rest {
             write!(f, ",{level}")?;
         }
+        Ok(())
+    }
+}
+
+// A writer to which nothing fails: a write that fails is passed over, and the next one is tried all the same, since who reads what
+// the programs that test print compares it.
+#[derive(Drop)]
+pub struct PassingOver<W>(pub W);
+
+impl<W: Write> Write for PassingOver<W> {
+    fn write(&mut self, buf: &[u8]) -> io::Result<usize>
+        ensures passes { result ≡ Ok (length buf.now) }
+    {
+        let _ = self.0.write_all(buf);
+        Ok(buf.len())
+    }
+
+    fn flush(&mut self) -> io::Result<()>
+        ensures passes { IsOk result }
+    {
+        let _ = self.0.flush();
+        Ok(())
+    }
+
+    fn write_all(&mut self, buf: &[u8]) -> io::Result<()>
+        ensures passes { IsOk result }
+    {
+        let _ = self.write(buf);
         Ok(())
     }
 }

@@ -1,5 +1,5 @@
 // The assembler: a new one, taking a reading, giving out the levels.
-use crate::arrow::shown;
+use crate::arrow::refused;
 use crate::line::Line;
 use light::{Assembler, Pair, Reading, Refused};
 use printing::Levels;
@@ -35,11 +35,11 @@ fn state(to: &mut impl Write, assembler: Assembler) -> io::Result<()> {
 fn handed(to: &mut impl Write, handed: Result<Assembler, Refused>) -> io::Result<()> {
     match handed {
         Ok(assembler) => {
-            shown(to, "done")?;
+            write!(to, " -> done")?;
             state(to, assembler)
         }
         Err(Refused { why, assembler }) => {
-            shown(to, why)?;
+            refused(to, why)?;
             state(to, assembler)
         }
     }
@@ -70,8 +70,8 @@ pub(crate) fn take(to: &mut impl Write, line: Line<'_>) -> io::Result<()> {
 
 fn give_in(to: &mut impl Write, line: Line<'_>, slice: &mut [i32]) -> io::Result<()> {
     match given(line).give(slice) {
-        Ok(()) => shown(to, "done")?,
-        Err(refusal) => shown(to, refusal)?,
+        Ok(()) => write!(to, " -> done")?,
+        Err(refusal) => refused(to, refusal)?,
     }
     write!(to, " levels={}", Levels(slice))
 }

@@ -36,7 +36,7 @@ fn record(to: &mut impl Write, record: &[u8; 144]) -> io::Result<()> {
     let (header, levels) = record.split_at(16);
     write!(to, " record=")?;
     for b in header {
-        write!(to, "{b:02x}")?;
+        write!(to, "{:x}{:x}", b >> 4, b & 15)?;
     }
     write!(to, " levels=")?;
     for level in levels.as_chunks::<2>().0 {

@@ -1,5 +1,5 @@
 // A code by its n and its mask: the constructor and the guard.
-use crate::arrow::shown;
+use crate::arrow::{refused, shown};
 use crate::line::Line;
 use code::Code;
 use std::io;
@@ -22,14 +22,14 @@ pub(crate) fn new(to: &mut impl Write, line: Line<'_>) -> io::Result<()> {
             code.n,
             u64::from(code.frozen)
         ),
-        Err(refusal) => shown(to, refusal),
+        Err(refusal) => refused(to, refusal),
     }
 }
 
 pub(crate) fn guard(to: &mut impl Write, line: Line<'_>) -> io::Result<()> {
     match given(line).guard() {
         Ok(Some(figure)) => shown(to, figure),
-        Ok(None) => shown(to, "none"),
-        Err(refusal) => shown(to, refusal),
+        Ok(None) => write!(to, " -> none"),
+        Err(refusal) => refused(to, refusal),
     }
 }

@@ -1,5 +1,5 @@
 // Decoding levels.
-use crate::arrow::shown;
+use crate::arrow::refused;
 use crate::line::Line;
 use refusal::Refusal;
 use std::io;
@@ -15,7 +15,7 @@ pub(crate) fn answer(to: &mut impl Write, answer: Result<Decoded, Refusal>) -> i
             write!(to, " -> message={message} d=0x{d:x} x=0x{x:x}")?;
             write!(to, " distance={} visits={}", found.distance, found.visits)
         }
-        Err(refusal) => shown(to, refusal),
+        Err(refusal) => refused(to, refusal),
     }
 }
 

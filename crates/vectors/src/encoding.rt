@@ -1,5 +1,5 @@
 // Encoding a message: to words, and to ideal levels in a lent slice.
-use crate::arrow::shown;
+use crate::arrow::refused;
 use crate::line::Line;
 use crate::{buffers, codes};
 use code::Encoded;
@@ -11,7 +11,7 @@ use word::Word;
 fn answer(to: &mut impl Write, answer: Result<Encoded, Refusal>) -> io::Result<()> {
     match answer {
         Ok(Encoded { d, x }) => write!(to, " -> d=0x{:x} x=0x{:x}", u64::from(d), u64::from(x)),
-        Err(refusal) => shown(to, refusal),
+        Err(refusal) => refused(to, refusal),
     }
 }
 

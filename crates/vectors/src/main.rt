@@ -20,6 +20,7 @@ mod samples;
 mod words;
 
 use line::Line;
+use printing::PassingOver;
 use std::io;
 use std::io::{LineWriter, Read, Write};
 
@@ -52,7 +53,7 @@ fn case(to: &mut impl Write, line: Line<'_>) -> io::Result<()> {
     writeln!(to)
 }
 
-// Each line that is a call. A failed write is passed over: who reads the lines compares them with those that must come.
+// Each line that is a call. The writer passes over a failed write: who reads the lines compares them with those that must come.
 fn cases(to: &mut impl Write, text: &[u8]) {
     for line in text.split_inclusive(|b| *b == b'\n') {
         match line {
@@ -79,7 +80,7 @@ fn read(input: &mut impl Read, text: &mut [u8]) -> usize
 fn main(rt: HostRuntime) -> io::Result<()> {
     let mut text = [0; 65536];
     let len = read(&mut rt.stdin(), &mut text);
-    let mut to = LineWriter::new(rt.alloc(), rt.stdout())?;
+    let mut to = PassingOver(LineWriter::new(rt.alloc(), rt.stdout())?);
     cases(&mut to, &text[..len]);
     Ok(())
 }

@@ -1,6 +1,6 @@
 // A record read, and a recorded block decoded: the first of document 01's three records, with up to three bytes changed. Number 0
 // of a line is how many of its bytes are given.
-use crate::arrow::shown;
+use crate::arrow::refused;
 use crate::line::Line;
 use crate::{decoding, given};
 use printing::Levels;
@@ -18,7 +18,7 @@ fn fields(to: &mut impl Write, fields: Fields) -> io::Result<()> {
 fn read_of(to: &mut impl Write, bytes: &[u8]) -> io::Result<()> {
     match record::read(bytes) {
         Ok(read) => fields(to, read),
-        Err(refusal) => shown(to, refusal),
+        Err(refusal) => refused(to, refusal),
     }
 }
 

@@ -2,7 +2,7 @@
 // written into a lent buffer.
 ghost use Rattle.std.specs.Prelude.{◌≤◌, length};
 
-use crate::arrow::shown;
+use crate::arrow::refused;
 use crate::line::Line;
 use crate::{buffers, given};
 use request::Request;
@@ -25,7 +25,7 @@ fn fields(to: &mut impl Write, request: Request) -> io::Result<()> {
 fn read_of(to: &mut impl Write, bytes: &[u8]) -> io::Result<()> {
     match request::read(bytes) {
         Ok(request) => fields(to, request),
-        Err(refusal) => shown(to, refusal),
+        Err(refusal) => refused(to, refusal),
     }
 }
 
@@ -60,11 +60,13 @@ fn wrote(to: &mut impl Write, out: &[u8]) -> io::Result<()>
 
 fn write_in(to: &mut impl Write, request: Request, out: &mut [u8]) -> io::Result<()> {
     match request::written::write(request, out) {
-        Ok(()) => return wrote(to, out),
-        Err(NotWritten::NoRoom) => shown(to, "no room")?,
-        Err(NotWritten::Refused(refusal)) => shown(to, refusal)?,
+        Ok(()) => wrote(to, out),
+        Err(NotWritten::NoRoom) => write!(to, " -> no room left={}", buffers::left(out)),
+        Err(NotWritten::Refused(refusal)) => {
+            refused(to, refusal)?;
+            write!(to, " left={}", buffers::left(out))
+        }
     }
-    write!(to, " left={}", buffers::left(out))
 }
 
 // A buffer of that many bytes, up to 160.

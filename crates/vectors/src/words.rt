@@ -16,13 +16,17 @@ fn came(to: &mut impl Write, w: Word) -> io::Result<()> {
 }
 
 fn said(to: &mut impl Write, yes: bool) -> io::Result<()> {
-    shown(to, if yes { "yes" } else { "no" })
+    if yes {
+        write!(to, " -> yes")
+    } else {
+        write!(to, " -> no")
+    }
 }
 
 fn fewest_ones(to: &mut impl Write, n: u32, frozen: Word) -> io::Result<()> {
     match word::count::fewest_ones(n, frozen) {
         Some(ones) => shown(to, ones),
-        None => shown(to, "none"),
+        None => write!(to, " -> none"),
     }
 }
 
@@ -51,7 +55,7 @@ fn copies(to: &mut impl Write, w: u64, b: u64, own: usize) -> io::Result<()> {
     if apart(w, b, own) {
         came(to, Word::from(w).copies(Word::from(b)))
     } else {
-        shown(to, "none")
+        write!(to, " -> none")
     }
 }
 
