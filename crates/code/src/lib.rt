@@ -58,7 +58,8 @@ impl Code {
     }
 }
 
-// The words of a message; refusals 1, 3, 9.
+// The words of a message; refusals 1, 3, 9. It goes into its caller, so that words which a caller does not use are not worked out.
+#[inline(always)]
 pub fn encode(code: Code, message: Word) -> Result<Encoded, Refusal>
     ensures { encoded_of result ≡ encode_answer code.n (word_of code.frozen) (word_of message) }
 {

@@ -28,7 +28,8 @@ pub struct Request {
     pub message: Word,
 }
 
-// The words of the request's message; refusals 1, 3, 4, 5, 9.
+// The words of the request's message; refusals 1, 3, 4, 5, 9. It goes into its caller, as `read` does, which uses none of them.
+#[inline(always)]
 fn encoded(request: Request) -> Result<Encoded, Refusal>
     ensures { encoded_of result ≡ answer (write_order (request_in request)) (rules.encoded request.n (word_of request.mask) (word_of request.message)) }
 {
@@ -41,6 +42,7 @@ fn encoded(request: Request) -> Result<Encoded, Refusal>
 }
 
 // The fields of a request, or why it is refused. Of a longer slice the first 24 bytes count.
+#[inline(always)]
 pub fn read(bytes: &[u8]) -> Result<Request, Refusal>
     ensures { asked_of result ≡ request_answer bytes.now }
 {
